@@ -1,0 +1,83 @@
+-- Addresses that a walk meets are below 2^48, and a table is found above level 3 only.
+use Prim.Native.Nat.{ℕ, zero, suc, _+_, _*_, _-_, _^_, _/_, _%_, _≤_, _<_}
+use mathlib.Core.Path.{_≡_, refl, sym, ap, subst, _∙_}
+use mathlib.Core.Bool.{Bool, true, false, cond, _&&_, false≢true}
+use mathlib.Core.List.{List}
+use mathlib.Core.Option.{Option, none, some}
+use native.Mathlib.Omega.{arith}
+use borrow.Author.Tests.{ltb-true, eqb-true}
+use lib.Dec.{eqb, ltb}
+use Rattle.walk.specs.declared.Kind.the-variants.{Translation, NotModelled, AccessFlag, Permission}
+use Rattle.walk.specs.declared.Step.{Step}
+use Rattle.walk.specs.declared.Step.the-variants.{Absent, Down, Output, Fail}
+use Rattle.walk.specs.Memory.{read-at}
+use Rattle.walk.specs.Descriptor.{span, bit, address, is-table, is-valid, is-modelled}
+use Rattle.walk.specs.Stage.{valid, leaf, meaning}
+use Rattle.walk.specs.Both.{root-fits}
+use Rattle.walk.specs.Steps.{step-of, step-read, step-at}
+
+pub and-left : (a b : Bool) → (a && b) ≡ true → a ≡ true
+and-left true b e = refl
+and-left false b e = absurd (false≢true e)
+
+pub and-right : (a b : Bool) → (a && b) ≡ true → b ≡ true
+and-right true b e = e
+and-right false b e = absurd (false≢true e)
+
+-- what holds at the four levels holds at every level
+pub at-levels : (P : ℕ → Type 0) → P 0 → P 1 → P 2 → P 3 → (level : ℕ) → level ≤ 3 → P level
+at-levels P p q r s zero le = p
+at-levels P p q r s (suc zero) le = q
+at-levels P p q r s (suc (suc zero)) le = r
+at-levels P p q r s (suc (suc (suc zero))) le = s
+at-levels P p q r s (suc (suc (suc (suc n)))) le = absurd (omega arith)
+
+-- an aligned block below 2^48 ends there too
+block-low : (a x level : ℕ) → level ≤ 3 → a % span level ≡ 0 → a < 2 ^ 48 → a + x % span level < 2 ^ 48
+block-low a x =
+    at-levels (λ level. a % span level ≡ 0 → a < 2 ^ 48 → a + x % span level < 2 ^ 48)
+    (λ e l. omega arith) (λ e l. omega arith) (λ e l. omega arith) (λ e l. omega arith)
+
+abbrev pub Sane : ℕ → Step → Type 0
+Sane level Absent = Unit {0}
+Sane level (Down t) = (level < 3) × (t < 2 ^ 48)
+Sane level (Output o) = o < 2 ^ 48
+Sane level (Fail kind) = Unit {0}
+
+module _ (ia level d : ℕ) (le : level ≤ 3) where
+  aligned : is-modelled level d ≡ true → is-table level d ≡ false → address d % span level ≡ 0
+  aligned m t =
+      eqb-true (address d % span level) 0
+      (and-right (eqb (d / 2 ^ 48 % 8) 0) (eqb (address d % span level) 0) (simp t at m))
+
+  by-tests : (v m t f r : Bool) → is-modelled level d ≡ m → is-table level d ≡ t
+      → Sane level
+      (cond v
+      (cond m
+      (cond t (Down (address d)) (cond f (Fail AccessFlag) (cond r (Output (address d + ia % span level)) (Fail Permission))))
+      (Fail NotModelled))
+      (Fail Translation))
+  by-tests false m t f r p q = tt
+  by-tests true false t f r p q = tt
+  by-tests true true true f r p q = (ltb-true level 3 (and-right (eqb (d % 4) 3) (ltb level 3) q), omega arith)
+  by-tests true true false true r p q = tt
+  by-tests true true false false true p q = block-low (address d) ia level le (aligned p q) (omega arith)
+  by-tests true true false false false p q = tt
+
+  step-of-sane : (rights : ℕ → Bool) → Sane level (step-of rights ia level d)
+  unfolding step-of meaning valid leaf
+  step-of-sane rights =
+      by-tests (is-valid level d) (is-modelled level d) (is-table level d) (eqb (bit 10 d) 0) (rights d) refl refl
+
+step-read-sane : (rights : ℕ → Bool) (ia level : ℕ) → level ≤ 3 → (o : Option ℕ) → Sane level (step-read rights ia level o)
+step-read-sane rights ia level le none = tt
+step-read-sane rights ia level le (some d) = step-of-sane ia level d le rights
+
+pub step-sane : (m : List ℕ) (b : ℕ) (rights : ℕ → Bool) (ia level a : ℕ) → level ≤ 3
+    → Sane level (step-at m b rights ia level a)
+unfolding step-at
+step-sane m b rights ia level a le = step-read-sane rights ia level le (read-at m b a)
+
+pub root-low : (root : ℕ) → root-fits root ≡ true → root < 2 ^ 48
+unfolding root-fits
+root-low root e = ltb-true root (2 ^ 48) (and-right (eqb (root % 4096) 0) (ltb root (2 ^ 48)) e)

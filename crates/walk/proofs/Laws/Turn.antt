@@ -1,0 +1,130 @@
+-- One level of a walk: what the descriptor comes to decides how the walk goes on, in either stage.
+use Prim.Native.Nat.{ℕ, zero, suc, _+_, _-_, _%_, _≤_, _<_}
+use mathlib.Core.Path.{_≡_, refl, sym, ap, subst, _∙_}
+use mathlib.Core.Bool.{Bool, true, false, cond, _&&_}
+use mathlib.Core.List.{List, [], _∷_, _++_}
+use mathlib.Core.Option.{Option, none, some}
+use native.Mathlib.Omega.{arith}
+use lib.Dec.{eqb, ltb}
+use Rattle.walk.specs.declared.Kind.the-variants.{WalkAbort, Translation, NotModelled, AccessFlag, Permission}
+use Rattle.walk.specs.declared.Step.{Step}
+use Rattle.walk.specs.declared.Step.the-variants.{Absent, Down, Output, Fail}
+use Rattle.walk.specs.Memory.{read-at}
+use Rattle.walk.specs.Descriptor.{span, slot, bit, address, is-table, is-valid, is-modelled, allows-1, allows-2}
+use Rattle.walk.specs.Stage.{Stage, valid, leaf, meaning, walk-from}
+use Rattle.walk.specs.Both.{Walked, ends, having-fetched, fetched-at, One, failed, Both, through, rules-1, rules-2, fetch-1, fetch-2, stage-2}
+use Rattle.walk.specs.Both.{fault, during}
+use Rattle.walk.specs.Steps.{allows, steps, step-of, step-read, step-at, rest-1, rest-2}
+
+and-false : (x : Bool) → (x && false) ≡ false
+and-false true = refl
+and-false false = refl
+
+module _ {A : Type 0} (s : Stage A) (ia : ℕ) (fetch : ℕ → ℕ → (ℕ → A) → A) where
+  -- at level 3 no descriptor is a table, so it does not matter where a table would lead
+  page-meaning : (d : ℕ) (below : ℕ → A) → valid s ia 3 d (leaf s ia 3 d) ≡ meaning s ia 3 d below
+  unfolding meaning
+  page-meaning d below =
+      ap (λ (t : Bool). valid s ia 3 d (cond t (below (address d)) (leaf s ia 3 d))) (sym (and-false (eqb (d % 4) 3)))
+
+  pub turn-last : (table : ℕ) (below : ℕ → A)
+      → walk-from s ia fetch 0 table ≡ fetch 3 (slot 3 ia table) (λ d. meaning s ia 3 d below)
+  unfolding walk-from
+  turn-last table below = ap (fetch 3 (slot 3 ia table)) (λ i d. page-meaning d below i)
+
+  turn-left : (left table : ℕ)
+      → walk-from s ia fetch left table
+      ≡ fetch (3 - left) (slot (3 - left) ia table) (λ d. meaning s ia (3 - left) d (walk-from s ia fetch (left - 1)))
+  unfolding walk-from
+  turn-left zero table = turn-last table (walk-from s ia fetch 0)
+  turn-left (suc left) table =
+      let same : left ≡ suc left - 1 = omega arith in
+      ap (λ (k : ℕ). fetch (3 - suc left) (slot (3 - suc left) ia table) (λ d. meaning s ia (3 - suc left) d (walk-from s ia fetch k))) same
+
+  pub turn : (level table : ℕ) → level ≤ 3
+      → walk-from s ia fetch (3 - level) table
+      ≡ fetch level (slot level ia table) (λ d. meaning s ia level d (walk-from s ia fetch (3 - (level + 1))))
+  turn level table le =
+      let up : 3 - (3 - level) ≡ level = omega arith in
+      let down : 3 - level - 1 ≡ 3 - (level + 1) = omega arith in
+      turn-left (3 - level) table
+      ∙ ap (λ (l : ℕ). fetch l (slot l ia table) (λ d. meaning s ia l d (walk-from s ia fetch (3 - level - 1)))) up
+      ∙ ap (λ (k : ℕ). fetch level (slot level ia table) (λ d. meaning s ia level d (walk-from s ia fetch k))) down
+
+-- What a descriptor means is decided by its step, whatever is then made of it (h).
+module _ {A B : Type 0} (s : Stage A) (ia level : ℕ) (below : ℕ → A) (h : A → B) (abort : B) where
+  abbrev pub play : Step → B
+  play Absent = abort
+  play (Down t) = h (below t)
+  play (Output o) = h (s .output o)
+  play (Fail kind) = h (s .fault kind level)
+
+  by-tests : (v m t f r : Bool) (d : ℕ)
+      → h
+      (cond v
+      (cond m
+      (cond t (below (address d))
+      (cond f (s .fault AccessFlag level) (cond r (s .output (address d + ia % span level)) (s .fault Permission level))))
+      (s .fault NotModelled level))
+      (s .fault Translation level))
+      ≡ play
+      (cond v
+      (cond m
+      (cond t (Down (address d)) (cond f (Fail AccessFlag) (cond r (Output (address d + ia % span level)) (Fail Permission))))
+      (Fail NotModelled))
+      (Fail Translation))
+  by-tests false m t f r d = refl
+  by-tests true false t f r d = refl
+  by-tests true true true f r d = refl
+  by-tests true true false true r d = refl
+  by-tests true true false false true d = refl
+  by-tests true true false false false d = refl
+
+  pub plays : (d : ℕ) → h (meaning s ia level d below) ≡ play (step-of (s .allows) ia level d)
+  unfolding step-of meaning valid leaf
+  plays d = by-tests (is-valid level d) (is-modelled level d) (is-table level d) (eqb (bit 10 d) 0) (s .allows d) d
+
+-- The walk goes on as the step says, having fetched the descriptor at a.
+module _ {R : Type 0} (s : Stage (Walked R)) (ia level a : ℕ) (abort : Walked R) (below : ℕ → Walked R) where
+  abbrev pub replay : Step → Walked R
+  replay = play s ia level below (having-fetched (a ∷ [])) abort
+
+  pub fetched-step : (o : Option ℕ)
+      → fetched-at a o abort (λ d. meaning s ia level d below) ≡ replay (step-read (s .allows) ia level o)
+  fetched-step none = refl
+  fetched-step (some d) = plays s ia level below (having-fetched (a ∷ [])) abort d
+
+-- The rights that the code asks for by the number of the stage.
+pub rights-2 : (el access : ℕ) → allows 2 el access ≡ allows-2 access
+unfolding allows
+rights-2 el access = refl
+
+pub rights-1 : (el access : ℕ) → allows 1 el access ≡ allows-1 el access
+unfolding allows
+rights-1 el access = refl
+
+module _ (m : List ℕ) (b access ipa level table : ℕ) (le : level ≤ 3) where
+  pub turn-2 : rest-2 m b access ipa (3 - level) table
+      ≡ replay (rules-2 access) ipa level (slot level ipa table) (ends (failed WalkAbort level)) (rest-2 m b access ipa (3 - (level + 1)))
+      (step-at m b (allows 2 0 access) ipa level (slot level ipa table))
+  unfolding fetch-2 rules-2 step-at allows
+  turn-2 =
+      turn (rules-2 access) ipa (fetch-2 m b) level table le
+      ∙ fetched-step (rules-2 access) ipa level (slot level ipa table) (ends (failed WalkAbort level)) (rest-2 m b access ipa (3 - (level + 1)))
+      (read-at m b (slot level ipa table))
+
+module _ (m : List ℕ) (b root2 access el va level table : ℕ) (le : level ≤ 3) where
+  -- where the descriptor was reached at the physical address a
+  abbrev pub visited-1 : ℕ → Walked Both
+  visited-1 a =
+      replay (rules-1 m b root2 access el) va level a (ends (fault WalkAbort 1 level)) (rest-1 m b root2 access el va (3 - (level + 1)))
+      (step-at m b (allows 1 el access) va level a)
+
+  pub turn-1 : rest-1 m b root2 access el va (3 - level) table
+      ≡ through (stage-2 m b root2 0 (slot level va table)) (λ kind level2. during kind level2 level) visited-1
+  unfolding fetch-1 rules-1 step-at allows
+  turn-1 =
+      turn (rules-1 m b root2 access el) va (fetch-1 m b root2) level table le
+      ∙ ap (through (stage-2 m b root2 0 (slot level va table)) (λ kind level2. during kind level2 level))
+      (λ i a. fetched-step (rules-1 m b root2 access el) va level a (ends (fault WalkAbort 1 level)) (rest-1 m b root2 access el va (3 - (level + 1)))
+      (read-at m b a) i)

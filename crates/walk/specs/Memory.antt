@@ -1,0 +1,23 @@
+-- Document 01, section 1: physical memory, and which numbers fit it.
+-- RAM is the list m of its bytes, the first at the physical address b; it has n frames.
+use Prim.Native.Nat.{ℕ, _+_, _*_, _-_, _^_, _%_}
+use mathlib.Core.Bool.{Bool, cond, _&&_}
+use mathlib.Core.List.{List}
+use mathlib.Core.Option.{Option, none, some}
+use lib.ListN.{length}
+use lib.Dec.{eqb, leb}
+use Rattle.memory.specs.Word.{wordAt}
+
+-- "n frames of 4,096 bytes, 16 <= n <= 65,536, from physical address b, a multiple of 4,096 with b + 4,096 n <= 2^48.
+-- It is a lent slice of 4,096 n bytes"
+unfoldable pub image-fits : ℕ → ℕ → ℕ → Bool
+image-fits len b n =
+    leb 16 n && (leb n 65536 && (eqb (b % 4096) 0 && (leb (b + 4096 * n) (2 ^ 48) && eqb len (4096 * n))))
+
+-- "the byte at physical address a stands at index a - b"; all eight bytes from a on are in RAM
+abbrev pub in-ram : List ℕ → ℕ → ℕ → Bool
+in-ram m b a = leb b a && leb (a - b + 8) (length m)
+
+-- The descriptor at the physical address a, where its eight bytes are all in RAM.
+unfoldable pub read-at : List ℕ → ℕ → ℕ → Option ℕ
+read-at m b a = cond (in-ram m b a) (some (wordAt m (a - b))) none

@@ -1,0 +1,71 @@
+-- What the code's functions hand to each other, in the words of the definitions. No sentence of document 01 is decided here.
+use Prim.Native.Nat.{ℕ, _+_, _-_, _^_, _<_, _≤_}
+use mathlib.Core.Path.{_≡_}
+use mathlib.Core.Bool.{Bool, cond}
+use mathlib.Core.List.{List}
+use mathlib.Core.Option.{Option, none, some}
+use lib.ListN.{length}
+use lib.Dec.{eqb}
+use Rattle.walk.specs.declared.Answer.{Answer}
+use Rattle.walk.specs.declared.Answer.the-variants.{Found, Fault}
+use Rattle.walk.specs.declared.Step.{Step}
+use Rattle.walk.specs.declared.Step.the-variants.{Absent, Down, Output, Fail}
+use Rattle.walk.specs.declared.Ended.{Ended}
+use Rattle.walk.specs.declared.Ended.the-variants.{Reached, Failed}
+use Rattle.walk.specs.declared.Turn.{Turn}
+use Rattle.walk.specs.declared.Turn.the-variants.{Next, Told}
+use Rattle.walk.specs.Memory.{read-at}
+use Rattle.walk.specs.Descriptor.{allows-1, allows-2}
+use Rattle.walk.specs.Stage.{Stage, meaning, walk-from}
+use Rattle.walk.specs.Both.{Walked, One, reached, failed, Both, tell, fetch-1, fetch-2, rules-1, rules-2}
+
+-- the rights at a stage; stage 2 does not look at el
+unfoldable pub allows : ℕ → ℕ → ℕ → ℕ → Bool
+allows stage el access d = cond (eqb stage 2) (allows-2 access d) (allows-1 el access d)
+
+-- a stage that does nothing but say what it came to
+abbrev pub steps : (ℕ → Bool) → Stage Step
+steps rights = record { allows = rights; fault = λ kind level. Fail kind; output = Output }
+
+-- what the descriptor d of a level comes to
+unfoldable pub step-of : (ℕ → Bool) → ℕ → ℕ → ℕ → Step
+step-of rights ia level d = meaning (steps rights) ia level d Down
+
+abbrev pub step-read : (ℕ → Bool) → ℕ → ℕ → Option ℕ → Step
+step-read rights ia level none = Absent
+step-read rights ia level (some d) = step-of rights ia level d
+
+-- what the descriptor at the physical address a comes to
+unfoldable pub step-at : List ℕ → ℕ → (ℕ → Bool) → ℕ → ℕ → ℕ → Step
+step-at m b rights ia level a = step-read rights ia level (read-at m b a)
+
+-- where n descriptors had been fetched before
+abbrev pub end-by : One → ℕ → Ended
+end-by (reached a) n = Reached a n
+end-by (failed kind level) n = Failed kind level n
+
+unfoldable pub ended : ℕ → Walked One → Ended
+ended n w = end-by (w .result) (n + length (w .fetched))
+
+unfoldable pub told : ℕ → Walked Both → Answer
+told n w = tell (w .result) (n + length (w .fetched))
+
+-- a walk that stands at a table of level 3 - left
+abbrev pub rest-2 : List ℕ → ℕ → ℕ → ℕ → ℕ → ℕ → Walked One
+rest-2 m b access ipa left table = walk-from (rules-2 access) ipa (fetch-2 m b) left table
+
+abbrev pub rest-1 : List ℕ → ℕ → ℕ → ℕ → ℕ → ℕ → ℕ → ℕ → Walked Both
+rest-1 m b root2 access el va left table = walk-from (rules-1 m b root2 access el) va (fetch-1 m b root2) left table
+
+-- a turn of stage 1 at a level, from a table, where n descriptors had been fetched: it told the answer, or the walk goes on
+module _ (m : List ℕ) (b root2 access el va level table n : ℕ) where
+  abbrev pub Turns : Turn → Type 0
+  Turns (Told x) = x ≡ told n (rest-1 m b root2 access el va (3 - level) table)
+  Turns (Next t k) =
+      (level < 3) × (t < 2 ^ 48) × (k ≤ n + 5)
+      × (told n (rest-1 m b root2 access el va (3 - level) table) ≡ told k (rest-1 m b root2 access el va (3 - (level + 1)) t))
+
+-- the answer of a walk whose last part is stage 2, which ended so
+abbrev pub Finished : Ended → Answer → Type 0
+Finished (Reached a n) x = x ≡ Found a n
+Finished (Failed kind level n) x = x ≡ Fault kind 2 level n

@@ -1,0 +1,139 @@
+// Document 01: what an address translates to, whatever the memory image holds.
+// Nothing is asked of the caller: numbers that do not fit are refused.
+ghost use mathlib.Core.Path.{_≡_};
+ghost use lib.ListN.{length};
+ghost use Rattle.walk.specs.Memory.{image-fits};
+ghost use Rattle.walk.specs.Both.{root-fits, answer-2, answer};
+
+mod descriptor;
+mod stage_1;
+mod stage_2;
+
+// Why a walk failed.
+pub enum Kind {
+    WalkAbort,
+    Translation,
+    NotModelled,
+    AccessFlag,
+    Permission,
+}
+
+// `fetched` is the number of descriptors that were read.
+pub enum Answer {
+    Found {
+        address: u64,
+        fetched: u64,
+    },
+    Fault {
+        kind: Kind,
+        stage: u64,
+        level: u64,
+        fetched: u64,
+    },
+    // A failure of stage 2 at `level`, while stage 1 fetched its descriptor of the level `of`.
+    During {
+        kind: Kind,
+        level: u64,
+        of: u64,
+        fetched: u64,
+    },
+    Refused,
+}
+
+// What the descriptor at an address comes to; Absent where it is not in RAM.
+enum Step {
+    Absent,
+    Down(u64),
+    Output(u64),
+    Fail(Kind),
+}
+
+// How stage 2 ended.
+enum Ended {
+    Reached {
+        address: u64,
+        fetched: u64,
+    },
+    Failed {
+        kind: Kind,
+        level: u64,
+        fetched: u64,
+    },
+}
+
+// What a level of stage 1 came to.
+enum Turn {
+    Next { table: u64, fetched: u64 },
+    Told(Answer),
+}
+
+// Section 1: whether RAM of `len` bytes and `frames` frames from `base` is one that the document describes.
+fn fits_image(len: usize, base: u64, frames: u64) -> bool
+    ensures { λ r. ⌜ r ≡ image-fits len base frames ⌝ }
+{
+    if frames < 16 {
+        return false;
+    }
+    if 65536 < frames {
+        return false;
+    }
+    if base % 4096 != 0 {
+        return false;
+    }
+    if 0x1000000000000 - 4096 * frames < base {
+        return false;
+    }
+    len as u64 == 4096 * frames
+}
+
+fn fits_root(root: u64) -> bool
+    ensures { λ r. ⌜ r ≡ root-fits root ⌝ }
+{
+    if root % 4096 != 0 {
+        return false;
+    }
+    root < 0x1000000000000
+}
+
+// Stage 2 alone: access is 0 to read, 1 to write, 2 to execute.
+pub fn stage2(ram: &[u8], base: u64, frames: u64, root: u64, ipa: u64, access: u64) -> Answer
+    ensures { λ r. ⌜ r ≡ answer-2 (now (ram .entry)) base frames root ipa access ⌝ }
+{
+    if fits_image(ram.len(), base, frames) {
+        if fits_root(root) {
+            if access < 3 {
+                if ipa < 0x1000000000000 {
+                    return stage_1::finish(stage_2::walk(ram, base, root, access, ipa, 0));
+                }
+            }
+        }
+    }
+    Answer::Refused
+}
+
+// Both stages, at EL0 or EL1.
+pub fn both_stages(
+    ram: &[u8],
+    base: u64,
+    frames: u64,
+    root1: u64,
+    root2: u64,
+    va: u64,
+    access: u64,
+    el: u64,
+) -> Answer
+    ensures { λ r. ⌜ r ≡ answer (now (ram .entry)) base frames root1 root2 va access el ⌝ }
+{
+    if fits_image(ram.len(), base, frames) {
+        if fits_root(root1) {
+            if fits_root(root2) {
+                if access < 3 {
+                    if el < 2 {
+                        return stage_1::both(ram, base, root1, root2, va, access, el);
+                    }
+                }
+            }
+        }
+    }
+    Answer::Refused
+}

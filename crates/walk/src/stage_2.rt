@@ -1,0 +1,72 @@
+// Document 01, section 4: stage 2, whose tables lie in RAM.
+ghost use mathlib.Core.Path.{_≡_};
+ghost use Prim.Native.Nat.{_+_, _<_, _≤_, _^_};
+ghost use Rattle.walk.specs.Both.{stage-2};
+ghost use Rattle.walk.specs.Steps.{allows, step-at, ended};
+use super::Ended;
+use super::Kind;
+use super::Step;
+use super::descriptor;
+
+// The descriptor at the physical address `a`, for the input address `ia` of a stage.
+pub(crate) fn visit(
+    ram: &[u8],
+    base: u64,
+    stage: u64,
+    el: u64,
+    access: u64,
+    ia: u64,
+    level: u64,
+    a: u64,
+) -> Step
+    requires { ⌜ (level ≤ 3) × (a < 2 ^ 49) ⌝ }
+    ensures { λ r. ⌜ r ≡ step-at (now (ram .entry)) base (allows stage el access) ia level a ⌝ }
+{
+    if base <= a {
+        let at = (a - base) as usize;
+        if at + 8 <= ram.len() {
+            let d = memory::word(ram, at);
+            return descriptor::examine(stage, el, access, ia, level, d);
+        }
+    }
+    Step::Absent
+}
+
+// `before` descriptors were fetched on the way here.
+pub(crate) fn walk(ram: &[u8], base: u64, root: u64, access: u64, ipa: u64, before: u64) -> Ended
+    requires { ⌜ (root < 2 ^ 48) × (before ≤ 20) ⌝ }
+    ensures { λ r. ⌜ r ≡ ended before (stage-2 (now (ram .entry)) base root access ipa) ⌝ }
+{
+    let mut level: u64 = 0;
+    let mut table = root;
+    loop {
+        let a = descriptor::place(level, ipa, table);
+        let step = visit(ram, base, 2, 0, access, ipa, level, a);
+        match step {
+            Step::Down(t) => {
+                table = t;
+                level += 1;
+            }
+            Step::Output(address) => {
+                return Ended::Reached {
+                    address,
+                    fetched: before + level + 1,
+                };
+            }
+            Step::Fail(kind) => {
+                return Ended::Failed {
+                    kind,
+                    level,
+                    fetched: before + level + 1,
+                };
+            }
+            Step::Absent => {
+                return Ended::Failed {
+                    kind: Kind::WalkAbort,
+                    level,
+                    fetched: before + level,
+                };
+            }
+        }
+    }
+}

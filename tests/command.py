@@ -1,0 +1,82 @@
+#!/usr/bin/env python3
+"""Checks of the command ./pageledger itself: the tour, its ways to take a script, its refusals, its build."""
+
+import pathlib
+import shutil
+import subprocess
+import tempfile
+import textwrap
+
+import tally
+
+HERE = pathlib.Path(__file__).resolve().parent
+COMMAND = HERE.parent / "pageledger"
+BUILT = HERE.parent / "target" / "bin" / "pageledger"
+SCRIPT = HERE / "worked-image.script"
+ANSWERS = SCRIPT.with_suffix(".expected").read_bytes()
+
+
+def refused(*words, **how):
+    """A problem unless the command ends with status 2, a message, and nothing on standard output."""
+    ran = subprocess.run([COMMAND, *words], stdin=subprocess.DEVNULL, capture_output=True, **how)
+    if (ran.returncode, ran.stdout) != (2, b"") or not ran.stderr.startswith(b"pageledger: "):
+        return f"status {ran.returncode}, printed {ran.stdout[:80]!r}, said {ran.stderr[:80]!r}"
+    return None
+
+
+def tour():
+    page = (HERE / "tour.page").read_bytes()
+    wide = [line for line in page.decode().splitlines() if len(line) > 80]
+    if wide:
+        return f"wider than 80 columns: {wide}"
+    return tally.problem([COMMAND], page, stdin=subprocess.DEVNULL)
+
+
+def session():
+    """A problem unless the session that README.md shows is what happens."""
+    shown = (HERE.parent / "README.md").read_text().partition("    $ cat self.script\n")[2]
+    script, _, printed = shown.partition("\n\n")[0].partition("    $ ./pageledger self.script\n")
+    script, printed = (textwrap.dedent(part).encode() for part in (script, printed + "\n"))
+    if b"setup" not in script:
+        return "there is none"
+    return tally.problem([COMMAND, "-"], printed, input=script)
+
+
+def second_start():
+    """A problem where a start with nothing changed builds, or says anything."""
+    before = BUILT.stat()
+    ran = subprocess.run([COMMAND, SCRIPT], stdin=subprocess.DEVNULL, capture_output=True)
+    after = BUILT.stat()
+    if (before.st_ino, before.st_mtime_ns) != (after.st_ino, after.st_mtime_ns) or ran.stderr:
+        return f"it built again, or said {ran.stderr[:200]!r}"
+    return None
+
+
+def without_rt(place):
+    """A problem where the command does not say that rt is missing."""
+    for tool in ("dirname", "readlink"):
+        (place / tool).symlink_to(shutil.which(tool))
+    return refused(SCRIPT, env={"PATH": str(place)})
+
+
+def main():
+    count, nothing = tally.Tally(), subprocess.DEVNULL
+    count.check("the tour", tour())
+    count.check("the session in README.md", session())
+    count.check("a second start", second_start())
+    count.check("a script from standard input", tally.problem([COMMAND, "-"], ANSWERS, stdin=SCRIPT.open()))
+    with tempfile.TemporaryDirectory() as folder:
+        place = pathlib.Path(folder)
+        shutil.copy(SCRIPT, place / "a script")
+        (place / "link").symlink_to(COMMAND)
+        count.check("another folder", tally.problem([COMMAND, "a script"], ANSWERS, stdin=nothing, cwd=place))
+        count.check("a link to it", tally.problem([place / "link", SCRIPT], ANSWERS, stdin=nothing))
+        count.check("a file that is not there", refused(place / "none"))
+        count.check("a folder", refused(place))
+        count.check("no rt", without_rt(place))
+    count.check("an empty name", refused(""))
+    count.check("two files", refused(SCRIPT, SCRIPT))
+    count.finish()
+
+
+main()
