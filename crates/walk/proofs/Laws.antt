@@ -5,3 +5,6 @@ pub mod Short
 pub mod Answers
 pub mod Walk1
 pub mod Walk2
+pub mod Level
+pub mod Fits
+pub mod Found
