@@ -1,0 +1,108 @@
+-- What holds of the ledger and the tables (Core), and of what the processor has kept (Kept). Every rule is about one entry, frame or guest.
+use mathlib.Core.Path.{_≡_, refl, sym, _∙_}
+use mathlib.Core.Bool.{Bool, true, false, _&&_, cond}
+use mathlib.Core.Logic.{_⊎_, inl, inr}
+use Prim.Native.Nat.{ℕ, zero, suc, _+_, _*_, _≤_, _<_, _/_, _%_}
+use native.Mathlib.Omega.{arith}
+use lib.Dec.{eqb}
+use Rattle.model.specs.Base.{lt?, sum}
+use Rattle.model.specs.State.{State, Kind, monitor, free, table, draining-table, page, draining-page, is-guest, pages}
+use Rattle.model.specs.Entry.{Entry, empty, to-table, to-page, other}
+use Rattle.model.specs.Translate.{entry-at}
+use Rattle.model.specs.Operations.{shares}
+use Rattle.model.specs.Cache.{Caches}
+use Rattle.model.specs.Invariant.Kinds.{sort, clash}
+
+-- f is g's page, or somebody's who shares it with g so
+abbrev pub May : State → (g f r : ℕ) → Type 0
+May s g f r = (s .kind f ≡ page g) ⊎ ((o : ℕ) × (s .kind f ≡ page o) × (shares (s .shared f g) r ≡ true))
+
+-- what an entry of g's table of height h, for the range q, may be
+module _ (kind : ℕ → Kind) (M : (g f r : ℕ) → Type 0) (g : ℕ) where
+  abbrev pub Fits : (h q : ℕ) → Entry → Type 0
+  Fits h q empty = Unit {0}
+  Fits zero q (to-table t) = ⊥
+  Fits (suc h) q (to-table t) = kind t ≡ table g h q
+  Fits zero q (to-page f r) = M g f r
+  Fits (suc h) q (to-page f r) = ⊥
+  Fits h q (other x) = ⊥
+
+-- the same where the table drains
+module _ (kind : ℕ → Kind) (g : ℕ) where
+  abbrev pub Stale : (h q : ℕ) → Entry → Type 0
+  Stale h q empty = Unit {0}
+  Stale zero q (to-table t) = ⊥
+  Stale (suc h) q (to-table t) = kind t ≡ draining-table g h q
+  Stale zero q (to-page f r) = kind f ≡ draining-page g
+  Stale (suc h) q (to-page f r) = ⊥
+  Stale h q (other x) = ⊥
+
+pub fits-keep : (kind kind′ : ℕ → Kind) (M M′ : (g f r : ℕ) → Type 0) (g : ℕ) →
+    ((t h p : ℕ) → kind t ≡ table g h p → kind′ t ≡ table g h p) →
+    (h q : ℕ) (e : Entry) → ((f r : ℕ) → h ≡ 0 → e ≡ to-page f r → M g f r → M′ g f r) → Fits kind M g h q e → Fits kind′ M′ g h q e
+fits-keep kind kind′ M M′ g a h q empty b x = tt
+fits-keep kind kind′ M M′ g a zero q (to-table t) b x = x
+fits-keep kind kind′ M M′ g a (suc h) q (to-table t) b x = a t h q x
+fits-keep kind kind′ M M′ g a zero q (to-page f r) b x = b f r refl refl x
+fits-keep kind kind′ M M′ g a (suc h) q (to-page f r) b x = x
+fits-keep kind kind′ M M′ g a h q (other y) b x = x
+
+pub stale-keep : (kind kind′ : ℕ → Kind) (g : ℕ) →
+    ((t h p : ℕ) → kind t ≡ draining-table g h p → kind′ t ≡ draining-table g h p) → ((f : ℕ) → kind f ≡ draining-page g → kind′ f ≡ draining-page g) →
+    (h q : ℕ) (e : Entry) → Stale kind g h q e → Stale kind′ g h q e
+stale-keep kind kind′ g a b h q empty x = tt
+stale-keep kind kind′ g a b zero q (to-table t) x = x
+stale-keep kind kind′ g a b (suc h) q (to-table t) x = a t h q x
+stale-keep kind kind′ g a b zero q (to-page f r) x = b f x
+stale-keep kind kind′ g a b (suc h) q (to-page f r) x = x
+stale-keep kind kind′ g a b h q (other y) x = x
+
+-- the places that lead to f from g's tables
+abbrev pub is-last : Kind → ℕ → Bool
+is-last monitor g = false
+is-last free g = false
+is-last (table h n p) g = eqb h g && eqb n 0
+is-last (draining-table h n p) g = false
+is-last (page h) g = false
+is-last (draining-page h) g = false
+
+abbrev pub leads : Entry → ℕ → Bool
+leads empty f = false
+leads (to-table t) f = false
+leads (to-page f′ r) f = eqb f′ f
+leads (other x) f = false
+
+unfoldable pub hit : Kind → Entry → (f g : ℕ) → ℕ
+hit x e f g = cond (is-last x g && leads e f) 1 0
+
+unfoldable pub places : State → (f g : ℕ) → ℕ
+places s f g = sum (s .size) (λ t. sum 512 (λ i. hit (s .kind t) (entry-at s t i) f g))
+
+pub record Core (s : State) : Type 0 where
+  pub room : s .first + s .size ≤ pages
+  pub beyond : (t : ℕ) → s .size ≤ t → s .kind t ≡ monitor
+  pub table-exists : (t g h p : ℕ) → s .kind t ≡ table g h p → s .exists g ≡ true
+  pub tables : (t g h p : ℕ) → s .kind t ≡ table g h p → (i : ℕ) → i < 512 → Fits (s .kind) (May s) g h (p * 512 + i) (entry-at s t i)
+  pub draining : (t g h p : ℕ) → s .kind t ≡ draining-table g h p → (i : ℕ) → i < 512 → Stale (s .kind) g h (p * 512 + i) (entry-at s t i)
+  pub roots : (g : ℕ) → s .exists g ≡ true → s .kind (s .root g) ≡ table g 3 0
+  pub page-exists : (f g : ℕ) → s .kind f ≡ page g → s .exists g ≡ true
+  pub strangers : (f o h : ℕ) → s .kind f ≡ page o → s .exists h ≡ false → s .shared f h ≡ 0
+  pub guests-only : (g : ℕ) → s .exists g ≡ true → is-guest g ≡ true
+  pub counts : (f g : ℕ) → s .count f g ≡ places s f g
+
+pub low : (s : State) → Core s → (t : ℕ) (x : Kind) → s .kind t ≡ x → eqb 0 (sort x) ≡ false → t < s .size
+low s c t x h q = elim (lt? t (s .size)) [ inl l ↦ l | inr l ↦ absurd (clash {x = monitor} {y = x} (sym (c .beyond t l) ∙ h) q) ]
+
+pub in-room : (s : State) → Core s → (t : ℕ) (x : Kind) → s .kind t ≡ x → eqb 0 (sort x) ≡ false → s .first + t < pages
+in-room s c t x h q = let l = low s c t x h q in let r = c .room in omega arith
+
+-- the tables say so now
+abbrev pub Mapped : State → (g v f r : ℕ) → Type 0
+Mapped s g v f r = (t : ℕ) × (s .kind t ≡ table g 0 (v / 512)) × (entry-at s t (v % 512) ≡ to-page f r)
+
+-- What is kept leads to frames that are the guest's, or drain for it; and where the guest is not dirty, to what its tables say now.
+pub record Kept (s : State) (k : Caches) : Type 0 where
+  pub table-ok : (g h p x : ℕ) → k .table-kept g h p x → (t : ℕ) × (x ≡ s .first + t) × ((s .kind t ≡ table g h p) ⊎ (s .kind t ≡ draining-table g h p))
+  pub page-ok : (g v x r : ℕ) → k .page-kept g v x r → (f : ℕ) × (x ≡ s .first + f) × (May s g f r ⊎ (s .kind f ≡ draining-page g))
+  pub table-now : (g h p x : ℕ) → s .dirty g ≡ false → k .table-kept g h p x → (t : ℕ) × (x ≡ s .first + t) × (s .kind t ≡ table g h p)
+  pub page-now : (g v x r : ℕ) → s .dirty g ≡ false → k .page-kept g v x r → (f : ℕ) × (x ≡ s .first + f) × Mapped s g v f r

@@ -1,0 +1,141 @@
+-- Words stay numbers of 64 bits, whatever is called and stored: so there are bytes that hold them.
+use mathlib.Core.Path.{_≡_, refl}
+use mathlib.Core.Logic.{inl, inr}
+use Prim.Native.Nat.{ℕ, zero, suc, _+_, _*_, _≤_, _<_, _/_, _%_, _^_}
+use native.Mathlib.Omega.{arith}
+use borrow.Author.Tests.{leb-true}
+use Rattle.model.specs.Base.{eq?, upd, upd-at, upd-other, upd2, upd2-at, upd2-other}
+use Rattle.model.specs.State.{State, free, pages, put-byte, free-frames}
+use Rattle.model.specs.Entry.{Entry, empty, to-table, to-page, other, table-entry, page-entry}
+use Rattle.model.specs.Translate.{upper, index, entry-at, into, translate, missing-from, missing}
+use Rattle.model.specs.Changes.{Choice, zeros, becomes, with-root, with-table, grow, with-page, with-mapping, without-page, without-guest, clean}
+use Rattle.model.specs.Operations.{Out, refuse, done, create, give, map, unmap, share, unshare, take, destroy, invalidated}
+use Rattle.model.specs.Cache.{Caches, nothing-kept}
+use Rattle.model.specs.Machine.{Machine, Operation, Create, Give, Take, Map, Unmap, Share, Unshare, Destroy, Invalidated, answer, Chooses, keeps, settle, call, stored, write, Step, calls, stores, Run, stop, then}
+use Rattle.model.specs.Invariant.Core.{Core, in-room}
+use Rattle.model.specs.Invariant.Answer.{Then, then-done, checked, may-is}
+use Rattle.model.specs.Invariant.Pages.{may-room}
+use Rattle.model.specs.Invariant.MapUnmap.{address-low, some-is, without-is, grown-for}
+use Rattle.model.specs.Invariant.Way.{translate-from}
+use Rattle.model.specs.Invariant.Holds.{Holds, nothing-ok, step-holds}
+
+abbrev pub Wide : (ℕ → ℕ → ℕ) → Type 0
+Wide w = (f i : ℕ) → w f i < 2 ^ 64
+
+zeros-wide : (i : ℕ) → zeros i < 2 ^ 64
+unfolding zeros
+zeros-wide i = omega arith
+
+module _ (w : ℕ → ℕ → ℕ) (h : Wide w) where
+  frame-wide : (k : ℕ) → Wide (upd w k zeros)
+  frame-wide k f i = elim (eq? f k) [
+    | inl e ↦ rw (upd-at w k zeros f e) (zeros-wide i)
+    | inr e ↦ rw (upd-other w k zeros f e) (h f i)
+  ]
+
+  word-wide : (k j x : ℕ) → x < 2 ^ 64 → Wide (upd2 w k j x)
+  word-wide k j x l f i = elim (eq? f k) [
+    | inr e ↦ rw (upd2-other w k j x f i (λ p q. e p)) (h f i)
+    | inl e ↦ elim (eq? i j) [
+      | inr d ↦ rw (upd2-other w k j x f i (λ p q. d q)) (h f i)
+      | inl d ↦ rw (upd2-at w k j x f i e d) l
+    ]
+  ]
+
+table-wide : (first t : ℕ) → first + t < pages → table-entry first t < 2 ^ 64
+unfolding table-entry
+table-wide first t l = omega arith
+
+page-wide : (first f r : ℕ) → first + f < pages → page-entry first f r < 2 ^ 64
+unfolding page-entry
+page-wide first f r l = omega arith
+
+-- the numbers of n bytes
+unfoldable pub room : ℕ → ℕ
+room zero = 1
+room (suc n) = 256 * room n
+
+put-wide : (n k w x : ℕ) → k < n → w < room n → x < 256 → put-byte k w x < room n
+unfolding room put-byte
+put-wide zero k w x l h b = absurd (omega arith)
+put-wide (suc n) zero w x l h b = omega arith
+put-wide (suc n) (suc k) w x l h b = let z = put-wide n k (w / 256) x (omega arith) (omega arith) b in omega arith
+
+byte-wide : (k w x : ℕ) → k < 8 → w < 2 ^ 64 → x < 256 → put-byte k w x < 2 ^ 64
+byte-wide k w x l h b = unfold room in put-wide 8 k w x l h b
+
+-- the tables that map makes
+few-missing : (s : State) (h t v : ℕ) → missing-from s h t v ≤ h
+unfolding missing-from
+few-missing s zero t v = omega arith
+few-missing s (suc h) t v = go (few-missing s h) (entry-at s t (index (suc h) v))
+  where
+    go : ((t v : ℕ) → missing-from s h t v ≤ h) → (e : Entry) → into e (suc h) (λ t′. missing-from s h t′ v) ≤ suc h
+    go ih empty = omega arith
+    go ih (to-table t′) = let z = ih t′ v in omega arith
+    go ih (to-page f r) = omega arith
+    go ih (other x) = omega arith
+
+grow-wide : (h : ℕ) (s : State) (g t v : ℕ) (pick : ℕ → ℕ) → Wide (s .word) → ((i : ℕ) → i < missing-from s h t v → s .first + pick i < pages) → Wide (grow h s g t v pick .state .word)
+unfolding grow missing-from
+grow-wide zero s g t v pick w l = w
+grow-wide (suc h) s g t v pick w l = go (grow-wide h) (entry-at s t (index (suc h) v)) refl
+  where
+    i : ℕ
+    i = index (suc h) v
+
+    s₁ : State
+    s₁ = with-table s t i (pick 0) g h (upper (suc h) v)
+
+    more : ((s : State) (g t v : ℕ) (pick : ℕ → ℕ) → Wide (s .word) → ((i : ℕ) → i < missing-from s h t v → s .first + pick i < pages) → Wide (grow h s g t v pick .state .word)) →
+        ((j : ℕ) → j < suc h → s .first + pick j < pages) → Wide (grow h s₁ g (pick 0) v (λ j. pick (suc j)) .state .word)
+    more ih k = ih s₁ g (pick 0) v (λ j. pick (suc j))
+        (unfold with-table in word-wide (upd (s .word) (pick 0) zeros) (frame-wide (s .word) w (pick 0)) t i (table-entry (s .first) (pick 0)) (table-wide (s .first) (pick 0) (k 0 (omega arith))))
+        (λ j (a : j < missing-from s₁ h (pick 0) v). unfold with-table in k (suc j) (omega (arith, few-missing s₁ h (pick 0) v)))
+
+    go : ((s : State) (g t v : ℕ) (pick : ℕ → ℕ) → Wide (s .word) → ((i : ℕ) → i < missing-from s h t v → s .first + pick i < pages) → Wide (grow h s g t v pick .state .word)) → (e : Entry) →
+        entry-at s t i ≡ e → Wide (grow (suc h) s g t v pick .state .word)
+    go ih empty q = rw q (more ih (rw q at l))
+    go ih (to-table t′) q = rw q (ih s g t′ v pick w (rw q at l))
+    go ih (to-page f r) q = rw q (more ih (rw q at l))
+    go ih (other x) q = rw q (more ih (rw q at l))
+
+module _ (s : State) (c : Core s) (w : Wide (s .word)) where
+  picked : (pick : ℕ → ℕ) → Choice s pick → (i : ℕ) → i < free-frames s → s .first + pick i < pages
+  picked pick ch i l = in-room s c (pick i) free (ch .frees i l) refl
+
+  answer-wide : (o : Operation) → Chooses s o → Then (λ s. Wide (s .word)) (answer s o)
+  unfolding answer create give take share unshare destroy invalidated map unmap with-root becomes with-mapping with-page without-page without-guest clean
+  answer-wide (Create g pick) ch = checked 1 λ e1. checked 2 λ e2. checked 3 λ e3. then-done (frame-wide (s .word) w (pick 0))
+  answer-wide (Give f g) ch = checked 5 λ e1. checked 4 λ e2. checked 6 λ e3. then-done (frame-wide (s .word) w f)
+  answer-wide (Take f g) ch = checked 5 λ e1. checked 4 λ e2. checked 9 λ e3. checked 13 λ e4. then-done w
+  answer-wide (Map f g a r pick) ch = checked 5 λ e1. checked 14 λ e2. checked 7 λ e3. checked 8 λ e4. checked 4 λ e5. checked 9 λ e6. checked 10 λ e7. checked 3 λ e8.
+      let v = a / 4096 in
+      let x = grow 3 s g (s .root g) v pick in
+      let enough = leb-true (missing s g v) (free-frames s) e8 in
+      let z = grown-for s c nothing-kept (nothing-ok s) g v pick e1 (address-low a e3) ch enough in
+      let tables : Wide (x .state .word) = grow-wide 3 s g (s .root g) v pick w (λ i (l : i < missing s g v). picked pick ch i (omega arith)) in
+      then-done (word-wide (x .state .word) tables (x .last) (v % 512) (page-entry (x .state .first) f r) (page-wide (x .state .first) f r (may-room (x .state) (z .core) g f r (z .may g f r (may-is s g f r e6)))))
+  answer-wide (Unmap g a) ch = checked 5 λ e1. checked 7 λ e2. checked 11 λ e3.
+      let o = some-is (translate s g (a / 4096)) e3 in
+      let at = translate-from s g (a / 4096) (o .0) (o .1) (o .2) in
+      rw (without-is s c g (a / 4096) (at .0) (o .0) (o .1) (at .1) (o .2)) (then-done (word-wide (s .word) w (at .0) (a / 4096 % 512) 0 (omega arith)))
+  answer-wide (Share g f h u) ch = checked 5 λ e1. checked 12 λ e2. checked 4 λ e3. checked 9 λ e4. checked 13 λ e5. checked 14 λ e6. then-done w
+  answer-wide (Unshare g f h) ch = checked 5 λ e1. checked 4 λ e2. checked 9 λ e3. checked 13 λ e4. checked 14 λ e5. then-done w
+  answer-wide (Destroy g) ch = checked 5 λ e1. checked 13 λ e2. then-done w
+  answer-wide (Invalidated g) ch = checked 1 λ e1. then-done w
+
+settled-wide : (m : Machine) (k : Caches) (o : Out) → Wide (m .state .word) → Then (λ s. Wide (s .word)) o → Wide (settle m k o .state .word)
+unfolding settle
+settled-wide m k (refuse a) w x = w
+settled-wide m k (done s) w (then-done x) = x
+
+step-wide : {m m′ : Machine} → Step m m′ → Holds m → Wide (m .state .word) → Wide (m′ .state .word)
+unfolding call write stored
+step-wide (calls {m} o ch) h w = settled-wide m (keeps (m .caches) o) (answer (m .state) o) w (answer-wide (m .state) (h .core) w o ch)
+step-wide (stores {m} g f o x e l n b a) h w =
+    word-wide (m .state .word) w f (o / 8) (put-byte (o % 8) (m .state .word f (o / 8)) x) (byte-wide (o % 8) (m .state .word f (o / 8)) x (omega arith) (w f (o / 8)) b)
+
+pub run-wide : {m z : Machine} → Run m z → Holds m → Wide (m .state .word) → Wide (z .state .word)
+run-wide stop h w = w
+run-wide (then x y) h w = run-wide y (step-holds x h) (step-wide x h w)
