@@ -42,3 +42,13 @@ pub mod RoundTrip
 pub mod Seen
 pub mod Image
 pub mod Wide
+pub mod Reworded
+pub mod Echo
+pub mod Alike
+pub mod Apart
+pub mod ApartKept
+pub mod ApartSteps
+pub mod ApartFrames
+pub mod ApartAnswers
+pub mod ApartRuns
+pub mod Beside

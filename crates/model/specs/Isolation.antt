@@ -3,8 +3,8 @@
 -- may have kept since the last report of an invalidation, lead there with that right (Cache, Reach). Each theorem has a file of its own in Theorems, with its proof.
 use mathlib.Core.Path.{_≡_}
 use mathlib.Core.Bool.{true, false}
-use mathlib.Core.Logic.{_⊎_}
-use Prim.Native.Nat.{ℕ, _+_, _<_, _/_}
+use mathlib.Core.Logic.{_⊎_, _↔_}
+use Prim.Native.Nat.{ℕ, _+_, _<_, _/_, _%_}
 use Rattle.model.specs.State.{State, Kind, page, table, byte}
 use Rattle.model.specs.Operations.{done, create}
 use Rattle.model.specs.Cache.{Access}
@@ -22,6 +22,10 @@ use Rattle.model.specs.Theorems.NewGuest as N
 use Rattle.model.specs.Theorems.Contents as C
 use Rattle.model.specs.Theorems.Moments as M
 use Rattle.model.specs.Theorems.Finely as F
+use Rattle.model.specs.Theorems.TwoRunsTerms.{Two-runs, Same-start}
+use Rattle.model.specs.Theorems.TwoRuns as S
+use Rattle.model.specs.Theorems.ApartTerms.{Frames, Runs-apart, no-frames, Reads}
+use Rattle.model.specs.Theorems.TwoRunsApart as A
 
 module _ {m z : Machine} (set-up : SetUp m) (run : Run m z) where
   -- What g reaches is its own page, or a page shared with it for that access, or a frame that drains for it; so never the ledger, which is outside RAM.
@@ -69,3 +73,12 @@ module _ {m z : Machine} (set-up : SetUp m) (run : Run m z) where
 reach-finely : {m z : Machine} → SetUp m → FineRun m z → (g : ℕ) (w : Access) (a : ℕ) → Reaches z g w a →
     (f : ℕ) × (a / 4096 ≡ z .state .first + f) × (f < z .state .size) × Allowed (z .state) g f w
 reach-finely = F.reach-finely
+
+-- "What one guest can read depends on nothing another does, but for pages shared on purpose": the same operations in both runs, any other stores (TwoRunsTerms, Together)
+same-bytes : {g : ℕ} {y z y′ z′ : Machine} → Same-start y z → Two-runs g y z y′ z′ → (w : Access) (a f : ℕ) → a / 4096 ≡ y′ .state .first + f → Reaches y′ g w a →
+    byte (y′ .state) f (a % 4096) ≡ byte (z′ .state) f (a % 4096)
+same-bytes = S.same-bytes
+
+-- and where the others also ask for other operations (ApartTerms, Apart): what g reads at each of its pages, by the tables or by anything kept
+same-reads : {g : ℕ} {R : Frames} {y z y′ z′ : Machine} → SetUp y → SetUp z → Runs-apart g no-frames y z R y′ z′ → (v r : ℕ) (bytes : ℕ → ℕ) → Reads y′ g v r bytes ↔ Reads z′ g v r bytes
+same-reads = A.same-reads

@@ -12,6 +12,11 @@ pub mod BecomesTable
 pub mod NewGuest
 -- Contents: no operation changes a byte of a page that stays with its guest.
 pub mod Contents
+-- What a guest reads depends on nothing another does: two runs with the same operations; two runs in which the others do other things.
+pub mod TwoRunsTerms
+pub mod TwoRuns
+pub mod ApartTerms
+pub mod TwoRunsApart
 -- Inside an operation: after each single store; and runs in which the processor looks after each.
 pub mod Moments
 pub mod Finely

@@ -2,3 +2,4 @@
 pub mod Lowest
 pub mod Runs
 pub mod Machine
+pub mod Apart
