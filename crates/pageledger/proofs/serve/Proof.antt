@@ -1,0 +1,101 @@
+-- Written by tools/prove from the file answers beside it: edit that, and not this.
+-- Ready before each turn; the turns fall.
+use Prim.Native.Nat.{ℕ, _≤_}
+use mathlib.Core.Path.{_≡_, refl, _∙_}
+use lib.ListN.{length}
+use Rattle.pageledger.specs.declared.State.{State}
+use Rattle.pageledger.specs.declared.Turn.{Turn}
+use Rattle.pageledger.specs.declared.Turn.the-variants.{More}
+use Rattle.pageledger.specs.Ready.{Ready, Goes}
+use borrow.Author.Needs.{needs}
+use native.Mathlib.Omega.{arith}
+use Rattle.pageledger.proofs.serve.Statement.{statement}
+use Rattle.pageledger.proofs.serve.Tie as tie
+
+abbrev Inv-loop : tie.InvT-loop
+Inv-loop line₀ ram₀ out₀ s₀ turns₀ line ram out s turns =
+    (length line ≡ length line₀) × (length ram ≡ length ram₀) × (length out ≡ length out₀)
+    × Ready s (length line₀) (length ram₀) (length out₀)
+
+abbrev μ-loop : tie.MeasureT-loop
+μ-loop line₀ ram₀ out₀ s₀ turns₀ line ram out s turns = turns
+
+goes : {r : Turn} {s : State} (line ram out : ℕ) → r ≡ More s → Goes r line ram out → Ready s line ram out
+goes line ram out e g = rw e at g
+
+no-machine-requires : tie.Need-no-machine-requires Inv-loop μ-loop
+no-machine-requires c κs = search needs
+
+loop-holds : tie.Need-loop-holds Inv-loop μ-loop
+loop-holds c = (refl, refl, refl, record { gathered = omega arith; within = omega arith; room = omega arith })
+
+read-some-requires : tie.Need-read-some-requires Inv-loop μ-loop
+read-some-requires c κs = let r = c .before .before .before .before .loop .inv .3 in
+    record { gathered = omega (arith, r .gathered); within = omega (arith, r .within); room = omega (arith, r .room) }
+
+enum-known-t : tie.Need-enum-known-t Inv-loop μ-loop
+enum-known-t c = search needs
+
+enum-told : tie.Need-enum-told Inv-loop μ-loop
+enum-told c = search needs
+
+same-length : tie.Need-same-length Inv-loop μ-loop
+same-length c = c .before .before .before .before .before .before .before .before .read-some .kept .1 .0 ∙ c .before .before .before .before .before .before .before .before .before .before .before .before .before .loop .inv .0
+
+same-length-2 : tie.Need-same-length-2 Inv-loop μ-loop
+same-length-2 c = c .before .before .before .before .before .before .before .before .read-some .kept .1 .1 .0 ∙ c .before .before .before .before .before .before .before .before .before .before .before .before .before .loop .inv .1
+
+same-length-3 : tie.Need-same-length-3 Inv-loop μ-loop
+same-length-3 c = c .before .before .before .before .before .before .before .before .read-some .kept .1 .1 .1 .0 ∙ c .before .before .before .before .before .before .before .before .before .before .before .before .before .loop .inv .2
+
+returns : tie.Need-returns Inv-loop μ-loop
+returns c = search needs
+
+sub-turns : tie.Need-sub-turns Inv-loop μ-loop
+sub-turns c = search needs
+
+loop-less : tie.Need-loop-less Inv-loop μ-loop
+loop-less c = search needs
+
+loop-again : tie.Need-loop-again Inv-loop μ-loop
+loop-again c = let r = goes _ _ _ (c .before .t .given .1) (c .before .before .before .before .before .before .before .before .before .read-some .ensures) in (
+  c .before .before .before .before .before .before .before .before .before .read-some .kept .1 .0 ∙ c .before .before .before .before .before .before .before .before .before .before .before .before .before .before .loop .inv .0,
+  c .before .before .before .before .before .before .before .before .before .read-some .kept .1 .1 .0 ∙ c .before .before .before .before .before .before .before .before .before .before .before .before .before .before .loop .inv .1,
+  c .before .before .before .before .before .before .before .before .before .read-some .kept .1 .1 .1 .0 ∙ c .before .before .before .before .before .before .before .before .before .before .before .before .before .before .loop .inv .2,
+  record { gathered = omega (arith, r .gathered); within = omega (arith, r .within); room = omega (arith, r .room) },
+)
+
+same-length-4 : tie.Need-same-length-4 Inv-loop μ-loop
+same-length-4 c = c .before .loop .inv .0
+
+same-length-5 : tie.Need-same-length-5 Inv-loop μ-loop
+same-length-5 c = c .before .loop .inv .1
+
+same-length-6 : tie.Need-same-length-6 Inv-loop μ-loop
+same-length-6 c = c .before .loop .inv .2
+
+returns-2 : tie.Need-returns-2 Inv-loop μ-loop
+returns-2 c = search needs
+
+pub serve-spec : {M : Type 1} → statement M
+serve-spec =
+    tie.close
+    (tie.spec
+    Inv-loop
+    μ-loop
+    no-machine-requires
+    loop-holds
+    read-some-requires
+    enum-known-t
+    enum-told
+    same-length
+    same-length-2
+    same-length-3
+    returns
+    sub-turns
+    loop-less
+    loop-again
+    same-length-4
+    same-length-5
+    same-length-6
+    returns-2)

@@ -1,0 +1,153 @@
+// Runs a script: standard input to standard output.
+ghost use mathlib.Core.Path.{_≡_};
+ghost use Prim.Native.Nat.{_+_, _≤_};
+ghost use lib.ListN.{length};
+ghost use Rattle.pageledger.specs.Ready.{Ready, Goes};
+use libc::STDIN_FILENO;
+use libc::STDOUT_FILENO;
+use script::Machine;
+
+// The machine, and how many bytes of the line and of the output are there.
+struct State {
+    machine: Machine,
+    line: usize,
+    out: usize,
+}
+
+enum Turn {
+    More(State),
+    End,
+}
+
+fn write_out(out: &[u8], n: usize)
+    requires { ⌜ n ≤ length (now out) ⌝ }
+{
+    io::write_all(STDOUT_FILENO, &out[..n]);
+}
+
+// Writes the output where there is no room for another answer, and says how much of it is left.
+fn flushed(out: &[u8], n: usize) -> usize
+    requires { ⌜ (n ≤ length (now out)) × (256 ≤ length (now out)) ⌝ }
+    ensures { λ r. ⌜ r + 256 ≤ length (now (out .entry)) ⌝ }
+{
+    if n <= out.len() - 256 {
+        return n;
+    }
+    write_out(out, n);
+    0
+}
+
+// Answers the line that was gathered.
+fn end_line(s: State, line: &[u8], ram: &mut [u8], out: &mut [u8]) -> State
+    requires { ⌜ Ready s (length (now line)) (length (now ram)) (length (now out)) ⌝ }
+    ensures { λ r. ⌜ Ready r (length (now (line .entry))) (length (now (ram .entry))) (length (now (out .entry))) ⌝ }
+{
+    let n = s.line;
+    let at = s.out;
+    let machine = s.machine;
+    let done = script::answer_line(&line[..n], machine, ram, &mut out[at..]);
+    let after = done.machine;
+    let end = at + done.printed;
+    let left = flushed(out, end);
+    State {
+        machine: after,
+        line: 0,
+        out: left,
+    }
+}
+
+// One byte more of a line. A line of 4,096 bytes or more stays one of 4,096.
+fn gather(s: State, line: &mut [u8], b: u8) -> State
+    requires { ⌜ s .line ≤ length (now line) ⌝ }
+    ensures { λ r. ⌜ (r .line ≤ length (now (line .entry))) × (r .machine ≡ s .machine) × (r .out ≡ s .out) ⌝ }
+{
+    let n = s.line;
+    if n < line.len() {
+        line[n] = b;
+        let machine = s.machine;
+        return State {
+            machine,
+            line: n + 1,
+            out: s.out,
+        };
+    }
+    s
+}
+
+fn take(s: State, b: u8, line: &mut [u8], ram: &mut [u8], out: &mut [u8]) -> State
+    requires { ⌜ Ready s (length (now line)) (length (now ram)) (length (now out)) ⌝ }
+    ensures { λ r. ⌜ Ready r (length (now (line .entry))) (length (now (ram .entry))) (length (now (out .entry))) ⌝ }
+{
+    if b == b'\n' {
+        return end_line(s, line, ram, out);
+    }
+    gather(s, line, b)
+}
+
+fn take_all(s: State, chunk: &[u8], line: &mut [u8], ram: &mut [u8], out: &mut [u8]) -> State
+    requires { ⌜ Ready s (length (now line)) (length (now ram)) (length (now out)) ⌝ }
+    ensures { λ r. ⌜ Ready r (length (now (line .entry))) (length (now (ram .entry))) (length (now (out .entry))) ⌝ }
+{
+    let mut t = s;
+    let mut i = 0;
+    while i < chunk.len() {
+        t = take(t, chunk[i], line, ram, out);
+        i += 1;
+    }
+    t
+}
+
+// The last line may have no line end.
+fn finish(s: State, line: &mut [u8], ram: &mut [u8], out: &mut [u8])
+    requires { ⌜ Ready s (length (now line)) (length (now ram)) (length (now out)) ⌝ }
+{
+    if 0 < s.line {
+        let t = end_line(s, line, ram, out);
+        write_out(out, t.out);
+        return;
+    }
+    write_out(out, s.out);
+}
+
+fn read_some(s: State, line: &mut [u8], ram: &mut [u8], out: &mut [u8]) -> Turn
+    requires { ⌜ Ready s (length (now line)) (length (now ram)) (length (now out)) ⌝ }
+    ensures { λ r. ⌜ Goes r (length (now (line .entry))) (length (now (ram .entry))) (length (now (out .entry))) ⌝ }
+{
+    let mut chunk = io::large_buffer();
+    let got = io::count(libc::read(STDIN_FILENO, &mut chunk), &chunk);
+    if got == 0 {
+        finish(s, line, ram, out);
+        return Turn::End;
+    }
+    Turn::More(take_all(s, &chunk[..got], line, ram, out))
+}
+
+// A proved loop has to end, and nothing says that the input does: the turns are counted down from a number that no run uses up.
+fn serve(line: &mut [u8], ram: &mut [u8], out: &mut [u8])
+    requires { ⌜ 256 ≤ length (now out) ⌝ }
+{
+    let mut s = State {
+        machine: script::no_machine(),
+        line: 0,
+        out: 0,
+    };
+    let mut turns = u64::MAX;
+    while 0 < turns {
+        match read_some(s, line, ram, out) {
+            Turn::More(t) => s = t,
+            Turn::End => return,
+        }
+        turns -= 1;
+    }
+}
+
+fn run(ram: &mut [u8; 4194304]) {
+    let mut line = io::buffer();
+    let mut out = io::large_buffer();
+    serve(&mut line, ram, &mut out);
+}
+
+fn main() {
+    let mut ram = [0u8; 4194304];
+    run(&mut ram);
+}

@@ -1,0 +1,5 @@
+mod Reading
+mod Scanning
+mod Parsing
+mod Answering
+mod Printing
