@@ -13,6 +13,7 @@ import re
 import subprocess
 import sys
 import tempfile
+import textwrap
 
 import tally
 
@@ -58,7 +59,7 @@ def show(seen):
     for failure in FAILURES:
         cells = ["-" if (failure, where) in NEVER else seen[failure, where] for where in WHERE]
         print(f"{failure:22}" + "".join(f"{cell:>9}" for cell in cells))
-    print("; ".join(f"{other}: {seen[other]}" for other in OTHERS))
+    print(textwrap.fill("; ".join(f"{other}: {seen[other]}" for other in OTHERS), 100))
     wanted = [(failure, where) for failure in FAILURES for where in WHERE if (failure, where) not in NEVER]
     return [kind for kind in wanted + OTHERS if seen[kind] == 0]
 

@@ -1,0 +1,241 @@
+-- The free frames as a sparse set: a permutation D of the frames with its inverse P, of which the first `count` are the free ones.
+-- A frame that leaves or joins changes places with the last one inside or the first one outside.
+use mathlib.Core.Path.{_≡_, refl, sym, ap, _∙_}
+use mathlib.Core.Bool.{Bool, true, false, _&&_, cond}
+use mathlib.Core.Logic.{_⊎_, inl, inr}
+use Prim.Native.Nat.{ℕ, zero, suc, _+_, _*_, _-_, _≤_, _<_}
+use native.Mathlib.Omega.{arith}
+use lib.Dec.{eqb, ltb, leb}
+use borrow.Author.Tests.{lt-ltb, le-ltb, eq-eqb, ne-eqb, eqb-true, ltb-true, ltb-false}
+use Rattle.model.specs.Base.{eq?, lt?, upd, upd-at, upd-other, sum, sum-cong, sum-none, sum-point}
+
+-- K: what a frame is, 1 where it is free
+pub record FreeSet (n : ℕ) (K D P : ℕ → ℕ) (count : ℕ) : Type 0 where
+  pub few : count ≤ n
+  pub d-low : (i : ℕ) → i < n → D i < n
+  pub p-low : (f : ℕ) → f < n → P f < n
+  pub p-d : (i : ℕ) → i < n → P (D i) ≡ i
+  pub d-p : (f : ℕ) → f < n → D (P f) ≡ f
+  pub in-set : (f : ℕ) → f < n → eqb (K f) 1 ≡ ltb (P f) count
+
+-- frame f and the one at place q change places
+module _ (n : ℕ) (K D P : ℕ → ℕ) (count f q : ℕ) (s : FreeSet n K D P count) (hf : f < n) (low-q : q < n) where
+  abbrev pub D′ : ℕ → ℕ
+  D′ = upd (upd D (P f) (D q)) q f
+
+  abbrev pub P′ : ℕ → ℕ
+  P′ = upd (upd P (D q) (P f)) f q
+
+  d-last : P (D q) ≡ q
+  d-last = s .p-d q low-q
+
+  same-place : D q ≡ f → P f ≡ q
+  same-place a = ap P (sym a) ∙ d-last
+
+  same-frame : P f ≡ q → D q ≡ f
+  same-frame a = ap D (sym a) ∙ s .d-p f hf
+
+  D-q : D′ q ≡ f
+  D-q = upd-at (upd D (P f) (D q)) q f q refl
+
+  D-p : (P f ≡ q → ⊥) → D′ (P f) ≡ D q
+  D-p ne = upd-other (upd D (P f) (D q)) q f (P f) ne ∙ upd-at D (P f) (D q) (P f) refl
+
+  D-i : (i : ℕ) → (i ≡ q → ⊥) → (i ≡ P f → ⊥) → D′ i ≡ D i
+  D-i i a b = upd-other (upd D (P f) (D q)) q f i a ∙ upd-other D (P f) (D q) i b
+
+  P-f : P′ f ≡ q
+  P-f = upd-at (upd P (D q) (P f)) f q f refl
+
+  P-e : (D q ≡ f → ⊥) → P′ (D q) ≡ P f
+  P-e ne = upd-other (upd P (D q) (P f)) f q (D q) ne ∙ upd-at P (D q) (P f) (D q) refl
+
+  P-x : (x : ℕ) → (x ≡ f → ⊥) → (x ≡ D q → ⊥) → P′ x ≡ P x
+  P-x x a b = upd-other (upd P (D q) (P f)) f q x a ∙ upd-other P (D q) (P f) x b
+
+  pd : (i : ℕ) → i < n → P′ (D′ i) ≡ i
+  pd i l = elim (eq? i q) [
+    | inl a ↦ ap (λ (x : ℕ). P′ (D′ x)) a ∙ ap P′ D-q ∙ P-f ∙ sym a
+    | inr a ↦ elim (eq? i (P f)) [
+      | inl b ↦ ap (λ (x : ℕ). P′ (D′ x)) b ∙ ap P′ (D-p (λ x. a (b ∙ x))) ∙ P-e (λ x. a (b ∙ same-place x)) ∙ sym b
+      | inr b ↦ ap P′ (D-i i a b) ∙ P-x (D i) (λ x. b (sym (s .p-d i l) ∙ ap P x)) (λ x. a (sym (s .p-d i l) ∙ ap P x ∙ d-last)) ∙ s .p-d i l
+    ]
+  ]
+
+  dp : (x : ℕ) → x < n → D′ (P′ x) ≡ x
+  dp x l = elim (eq? x f) [
+    | inl a ↦ ap (λ (y : ℕ). D′ (P′ y)) a ∙ ap D′ P-f ∙ D-q ∙ sym a
+    | inr a ↦ elim (eq? x (D q)) [
+      | inl b ↦ ap (λ (y : ℕ). D′ (P′ y)) b ∙ ap D′ (P-e (λ y. a (b ∙ y))) ∙ D-p (λ y. a (b ∙ same-frame y)) ∙ sym b
+      | inr b ↦ ap D′ (P-x x a b) ∙ D-i (P x) (λ y. b (sym (s .d-p x l) ∙ ap D y)) (λ y. a (sym (s .d-p x l) ∙ ap D y ∙ s .d-p f hf)) ∙ s .d-p x l
+    ]
+  ]
+
+  d-low′ : (i : ℕ) → i < n → D′ i < n
+  d-low′ = λ i l. elim (eq? i q) [
+    | inl a ↦ rw (upd-at (upd D (P f) (D q)) q f i a) hf
+    | inr a ↦ rw (upd-other (upd D (P f) (D q)) q f i a) (elim (eq? i (P f)) [
+      | inl b ↦ rw (upd-at D (P f) (D q) i b) (s .d-low q low-q)
+      | inr b ↦ rw (upd-other D (P f) (D q) i b) (s .d-low i l)
+    ])
+  ]
+
+  p-low′ : (x : ℕ) → x < n → P′ x < n
+  p-low′ = λ x l. elim (eq? x f) [
+    | inl a ↦ rw (upd-at (upd P (D q) (P f)) f q x a) low-q
+    | inr a ↦ rw (upd-other (upd P (D q) (P f)) f q x a) (elim (eq? x (D q)) [
+      | inl b ↦ rw (upd-at P (D q) (P f) x b) (s .p-low f hf)
+      | inr b ↦ rw (upd-other P (D q) (P f) x b) (s .p-low x l)
+    ])
+  ]
+
+  -- the set after it, whose bound has moved past place q and no other
+  pub exchanged : (v count′ : ℕ) → count′ ≤ n → eqb v 1 ≡ ltb q count′ →
+      ((x : ℕ) → x < n → (x ≡ q → ⊥) → ltb x count′ ≡ ltb x count) → ltb (P f) count′ ≡ ltb q count ⊎ (P f ≡ q) →
+      FreeSet n (upd K f v) D′ P′ count′
+  exchanged v count′ few here there other = record {
+    few = few;
+    d-low = d-low′;
+    p-low = p-low′;
+    p-d = pd;
+    d-p = dp;
+    in-set = member;
+  }
+    where
+      swapped : (x : ℕ) → x ≡ D q → (x ≡ f → ⊥) → (ltb (P f) count′ ≡ ltb q count) ⊎ (P f ≡ q) → ltb (P f) count′ ≡ ltb q count
+      swapped x b a (inl h) = h
+      swapped x b a (inr h) = absurd (a (b ∙ same-frame h))
+
+      member : (x : ℕ) → x < n → eqb (upd K f v x) 1 ≡ ltb (P′ x) count′
+      member x l = elim (eq? x f) [
+        | inl a ↦ rw (upd-at K f v x a, a, P-f) here
+        | inr a ↦ rw (upd-other K f v x a) (elim (eq? x (D q)) [
+          | inl b ↦ s .in-set x l ∙ ap (λ (y : ℕ). ltb y count) (ap P b ∙ d-last) ∙ sym (swapped x b a other) ∙ ap (λ (y : ℕ). ltb y count′) (sym (ap P′ b ∙ P-e (λ y. a (b ∙ y))))
+          | inr b ↦ s .in-set x l ∙ sym (there (P x) (s .p-low x l) (λ y. b (sym (s .d-p x l) ∙ ap D y))) ∙ ap (λ (y : ℕ). ltb y count′) (sym (P-x x a b))
+        ])
+      ]
+
+-- a free frame f becomes v, which is not free
+module _ (n : ℕ) (K D P : ℕ → ℕ) (count f v : ℕ) (s : FreeSet n K D P count) (hf : f < n) (was : K f ≡ 1) where
+  pub inside : P f < count
+  inside = ltb-true (P f) count (sym (s .in-set f hf) ∙ eq-eqb (K f) 1 was)
+
+  pub last-low : count - 1 < n
+  last-low = let a = s .few in let b = inside in omega arith
+
+  pub left-set : (v ≡ 1 → ⊥) → FreeSet n (upd K f v) (upd (upd D (P f) (D (count - 1))) (count - 1) f) (upd (upd P (D (count - 1)) (P f)) f (count - 1)) (count - 1)
+  left-set now =
+      let i = inside in
+      let few = s .few in
+      let less : count - 1 ≤ n = omega arith in
+      let none : count - 1 ≤ count - 1 = omega arith in
+      exchanged n K D P count f (count - 1) s hf last-low v (count - 1) less (ne-eqb v 1 now ∙ sym (le-ltb (count - 1) (count - 1) none)) there other
+    where
+      there : (x : ℕ) → x < n → (x ≡ count - 1 → ⊥) → ltb x (count - 1) ≡ ltb x count
+      there x l ne = elim (lt? x (count - 1)) [
+        | inl a ↦ lt-ltb x (count - 1) a ∙ sym (lt-ltb x count (omega arith))
+        | inr a ↦ le-ltb x (count - 1) a ∙ sym (le-ltb x count (past x count a ne))
+      ]
+        where
+          past : (x count : ℕ) → count - 1 ≤ x → (x ≡ count - 1 → ⊥) → count ≤ x
+          past x count a ne = elim (lt? x count) [ inl b ↦ absurd (ne (omega arith)) | inr b ↦ b ]
+
+      other : (ltb (P f) (count - 1) ≡ ltb (count - 1) count) ⊎ (P f ≡ count - 1)
+      other =
+          let i = inside in
+          elim (eq? (P f) (count - 1)) [
+            | inl e ↦ inr e
+            | inr e ↦ inl (lt-ltb (P f) (count - 1) (below (P f) count i e) ∙ sym (lt-ltb (count - 1) count (omega arith)))
+          ]
+        where
+          below : (x count : ℕ) → x < count → (x ≡ count - 1 → ⊥) → x < count - 1
+          below x count a ne = elim (lt? x (count - 1)) [ inl b ↦ b | inr b ↦ absurd (ne (omega arith)) ]
+
+-- frame f, which is not free, becomes so
+module _ (n : ℕ) (K D P : ℕ → ℕ) (count f : ℕ) (s : FreeSet n K D P count) (hf : f < n) (was : K f ≡ 1 → ⊥) where
+  outside : count ≤ P f
+  outside = ltb-false (P f) count (sym (s .in-set f hf) ∙ ne-eqb (K f) 1 was)
+
+  pub room-left : count < n
+  room-left = let a = s .p-low f hf in let b = outside in omega arith
+
+  pub joined-set : FreeSet n (upd K f 1) (upd (upd D (P f) (D count)) count f) (upd (upd P (D count) (P f)) f count) (count + 1)
+  joined-set =
+      let r = room-left in
+      let more : count + 1 ≤ n = omega arith in
+      let there-is : count < count + 1 = omega arith in
+      exchanged n K D P count f count s hf room-left 1 (count + 1) more (sym (lt-ltb count (count + 1) there-is)) there other
+    where
+      there : (x : ℕ) → x < n → (x ≡ count → ⊥) → ltb x (count + 1) ≡ ltb x count
+      there x l ne = elim (lt? x count) [
+        | inl a ↦ lt-ltb x (count + 1) (omega arith) ∙ sym (lt-ltb x count a)
+        | inr a ↦ le-ltb x (count + 1) (past x count a ne) ∙ sym (le-ltb x count a)
+      ]
+        where
+          past : (x count : ℕ) → count ≤ x → (x ≡ count → ⊥) → count + 1 ≤ x
+          past x count a ne = elim (lt? x (count + 1)) [ inl b ↦ absurd (ne (omega arith)) | inr b ↦ b ]
+
+      other : (ltb (P f) (count + 1) ≡ ltb count count) ⊎ (P f ≡ count)
+      other =
+          let o = outside in
+          let none : count ≤ count = omega arith in
+          elim (lt? count (P f)) [
+            | inl e ↦ inl (le-ltb (P f) (count + 1) (omega arith) ∙ sym (le-ltb count count none))
+            | inr e ↦ inr (omega arith)
+          ]
+
+-- frame f, which is not free, becomes v, which is not either
+pub kept-set : (n : ℕ) (K D P : ℕ → ℕ) (count f v : ℕ) → FreeSet n K D P count → (K f ≡ 1 → ⊥) → (v ≡ 1 → ⊥) → FreeSet n (upd K f v) D P count
+kept-set n K D P count f v s was now = record { few = s .few; d-low = s .d-low; p-low = s .p-low; p-d = s .p-d; d-p = s .d-p; in-set = member }
+  where
+    member : (x : ℕ) → x < n → eqb (upd K f v x) 1 ≡ ltb (P x) count
+    member x l = elim (eq? x f) [
+      | inl a ↦ rw (upd-at K f v x a, ne-eqb v 1 now) (sym (ne-eqb (K f) 1 was) ∙ ap (λ (y : ℕ). eqb (K y) 1) (sym a) ∙ s .in-set x l)
+      | inr a ↦ rw (upd-other K f v x a) (s .in-set x l)
+    ]
+
+-- The set has as many frames as are free.
+module _ (n : ℕ) (K D P : ℕ → ℕ) (count : ℕ) (s : FreeSet n K D P count) where
+  abbrev among : ℕ → ℕ → ℕ
+  among c f = cond (ltb f n && ltb (P f) c) 1 0
+
+  same : (c j : ℕ) → (j ≡ D c → ⊥) → among c j ≡ among (suc c) j
+  same c j ne = elim (lt? j n) [
+    | inr l ↦ rw (le-ltb j n l)
+    | inl l ↦ elim (lt? (P j) c) [
+      | inl a ↦ rw (lt-ltb j n l, lt-ltb (P j) c a, lt-ltb (P j) (suc c) (omega arith))
+      | inr a ↦ rw (lt-ltb j n l, le-ltb (P j) c a, le-ltb (P j) (suc c) (past (P j) c a (λ e. ne (sym (s .d-p j l) ∙ ap D e))))
+    ]
+  ]
+    where
+      past : (x c : ℕ) → c ≤ x → (x ≡ c → ⊥) → suc c ≤ x
+      past x c a e = elim (lt? x (suc c)) [ inl b ↦ absurd (e (omega arith)) | inr b ↦ b ]
+
+  counted : (c : ℕ) → c ≤ n → sum n (among c) ≡ c
+  counted zero l = sum-none n (among 0) (λ f. rw (le-ltb (P f) 0 (omega arith)) (nobody (ltb f n)))
+    where
+      nobody : (b : Bool) → _≡_ {A = ℕ} (cond (b && false) 1 0) 0
+      nobody true = refl
+      nobody false = refl
+  counted (suc c) l =
+      let before = counted c (omega arith) in
+      let low = s .d-low c (omega arith) in
+      let at : P (D c) ≡ c = s .p-d c (omega arith) in
+      let one : among (suc c) (D c) ≡ 1 = rw (lt-ltb (D c) n low, lt-ltb (P (D c)) (suc c) (omega arith)) in
+      let none : among c (D c) ≡ 0 = rw (lt-ltb (D c) n low, le-ltb (P (D c)) c (omega arith)) in
+      let step = sum-point n (among c) (among (suc c)) (D c) low (same c) in
+      omega arith
+
+  pub free-number : sum n (λ f. cond (eqb (K f) 1) 1 0) ≡ count
+  free-number = sum-cong n (λ f. cond (eqb (K f) 1) 1 0) (among count) (λ f l. rw (s .in-set f l, lt-ltb f n l)) ∙ counted count (s .few)
+
+  -- the frame at a place inside is free
+  pub free-at : (i : ℕ) → i < count → (D i < n) × (K (D i) ≡ 1)
+  free-at i l =
+      let few = s .few in
+      let low = s .d-low i (omega arith) in
+      let at = s .p-d i (omega arith) in
+      (low, eqb-true (K (D i)) 1 (s .in-set (D i) low ∙ lt-ltb (P (D i)) count (omega arith)))
+
+  pub once-at : (i j : ℕ) → i < n → j < n → D i ≡ D j → i ≡ j
+  once-at i j hi hj e = sym (s .p-d i hi) ∙ ap P e ∙ s .p-d j hj

@@ -1,0 +1,64 @@
+-- Written by tools/prove from the file answers beside it: edit that, and not this.
+-- Each test is one of the definition's.
+use Rattle.monitor.specs.SetUp.{few-frames, many-frames, uneven, too-high, none-left, bad-ram, bad-ledger, fits-all}
+use borrow.Author.Needs.{needs}
+use native.Mathlib.Omega.{arith}
+use Rattle.monitor.proofs.start.check_set_up.Statement.{statement}
+use Rattle.monitor.proofs.start.check_set_up.Tie as tie
+
+returns : tie.Need-returns
+returns c = few-frames (c .before .args .n) (c .before .args .b) (c .before .args .k) (c .before .args .ram .now) (c .before .args .ledger .now) (c .if1 .taken)
+
+returns-2 : tie.Need-returns-2
+returns-2 c = many-frames (c .before .before .args .n) (c .before .before .args .b) (c .before .before .args .k) (c .before .before .args .ram .now) (c .before .before .args .ledger .now) (c .if2 .taken)
+
+returns-3 : tie.Need-returns-3
+returns-3 c = uneven (c .before .before .before .args .n) (c .before .before .before .args .b) (c .before .before .before .args .k) (c .before .before .before .args .ram .now) (c .before .before .before .args .ledger .now) (c .if3 .taken)
+
+mul-if4 : tie.Need-mul-if4
+mul-if4 c = search needs
+
+sub-if4 : tie.Need-sub-if4
+sub-if4 c = search needs
+
+returns-4 : tie.Need-returns-4
+returns-4 c = too-high (c .before .before .before .before .args .n) (c .before .before .before .before .args .b) (c .before .before .before .before .args .k) (c .before .before .before .before .args .ram .now) (c .before .before .before .before .args .ledger .now) (omega (arith, c .if4 .taken, c .before .before .if2 .left))
+
+returns-5 : tie.Need-returns-5
+returns-5 c = none-left (c .before .before .before .before .before .args .n) (c .before .before .before .before .before .args .b) (c .before .before .before .before .before .args .k) (c .before .before .before .before .before .args .ram .now) (c .before .before .before .before .before .args .ledger .now) (c .if5 .taken)
+
+mul-if6 : tie.Need-mul-if6
+mul-if6 c = search needs
+
+returns-6 : tie.Need-returns-6
+returns-6 c = bad-ram (c .before .before .before .before .before .before .args .n) (c .before .before .before .before .before .before .args .b) (c .before .before .before .before .before .before .args .k) (c .before .before .before .before .before .before .args .ram .now) (c .before .before .before .before .before .before .args .ledger .now) (c .if6 .taken)
+
+mul-if7 : tie.Need-mul-if7
+mul-if7 c = search needs
+
+add-if7 : tie.Need-add-if7
+add-if7 c = search needs
+
+returns-7 : tie.Need-returns-7
+returns-7 c = bad-ledger (c .before .before .before .before .before .before .before .args .n) (c .before .before .before .before .before .before .before .args .b) (c .before .before .before .before .before .before .before .args .k) (c .before .before .before .before .before .before .before .args .ram .now) (c .before .before .before .before .before .before .before .args .ledger .now) (c .if7 .taken)
+
+returns-8 : tie.Need-returns-8
+returns-8 c = fits-all (c .before .before .before .before .before .before .before .args .n) (c .before .before .before .before .before .before .before .args .b) (c .before .before .before .before .before .before .before .args .k) (c .before .before .before .before .before .before .before .args .ram .now) (c .before .before .before .before .before .before .before .args .ledger .now) (c .before .if6 .left) (c .if7 .left) (c .before .before .before .before .before .before .if1 .left) (c .before .before .before .before .before .if2 .left) (c .before .before .before .before .if3 .left) (omega (arith, c .before .before .before .if4 .left, c .before .before .before .before .before .if2 .left)) (c .before .before .if5 .left)
+
+pub check-set-up-spec : {M : Type 1} → statement M
+check-set-up-spec =
+    tie.close
+    (tie.spec
+    returns
+    returns-2
+    returns-3
+    mul-if4
+    sub-if4
+    returns-4
+    returns-5
+    mul-if6
+    returns-6
+    mul-if7
+    add-if7
+    returns-7
+    returns-8)

@@ -1,0 +1,4 @@
+pub mod Answers
+pub mod SetUp
+pub mod Create
+pub mod Give

@@ -1,0 +1,5 @@
+// The operations of document 03, section 3, on the two lent slices: RAM, and the ledger outside it.
+// An operation is a check, which only borrows, so that a refusal changes nothing; and then a doing, which cannot fail.
+pub mod guests;
+pub mod pages;
+pub mod start;
