@@ -1,7 +1,6 @@
 // Document 01: what an address translates to, whatever the memory image holds.
 // Nothing is asked of the caller: numbers that do not fit are refused.
 ghost use mathlib.Core.Path.{_≡_};
-ghost use lib.ListN.{length};
 ghost use Rattle.walk.specs.Memory.{image-fits};
 ghost use Rattle.walk.specs.Both.{root-fits, answer-2, answer};
 

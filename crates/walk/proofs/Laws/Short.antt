@@ -1,6 +1,6 @@
 -- A walk of stage 2 from a table of level 3 - left fetches left + 1 descriptors at most, and what it reaches is below 2^48.
 use Prim.Native.Nat.{ℕ, zero, suc, _+_, _-_, _≤_, _<_, _^_}
-use mathlib.Core.Path.{_≡_, sym, subst, _∙_}
+use mathlib.Core.Path.{_≡_, sym, subst}
 use mathlib.Core.List.{List}
 use native.Mathlib.Omega.{arith}
 use lib.ListN.{length}

@@ -1,19 +1,15 @@
 -- How the numbers of descriptors fetched add up, and what an end of stage 2 says of the walk.
-use Prim.Native.Nat.{ℕ, zero, suc, _+_, _*_, _-_, _≤_, _<_, _^_}
-use mathlib.Core.Path.{_≡_, refl, sym, ap, subst, _∙_}
-use mathlib.Core.List.{List, [], _∷_, _++_}
+use Prim.Native.Nat.{ℕ, _+_, _-_}
+use mathlib.Core.Path.{_≡_, refl, ap, _∙_}
+use mathlib.Core.List.{List, _++_}
 use native.Mathlib.Omega.{arith}
 use lib.ListN.{length, length-append}
 use Rattle.walk.specs.declared.Kind.{Kind}
-use Rattle.walk.specs.declared.Kind.the-variants.{WalkAbort}
 use Rattle.walk.specs.declared.Answer.{Answer}
 use Rattle.walk.specs.declared.Ended.{Ended}
 use Rattle.walk.specs.declared.Ended.the-variants.{Reached, Failed}
-use Rattle.walk.specs.declared.Step.{Step}
-use Rattle.walk.specs.declared.Step.the-variants.{Absent, Down, Output, Fail}
-use Rattle.walk.specs.Descriptor.{slot}
-use Rattle.walk.specs.Both.{Walked, ends, having-fetched, One, reached, failed, Both, by-result, through, tell, rules-2, stage-2}
-use Rattle.walk.specs.Steps.{allows, step-at, end-by, ended, told}
+use Rattle.walk.specs.Both.{Walked, ends, having-fetched, One, reached, failed, Both, by-result, through, tell}
+use Rattle.walk.specs.Steps.{end-by, ended, told}
 
 pub ended-more : (n : ℕ) (places : List ℕ) (w : Walked One) → ended n (having-fetched places w) ≡ ended (n + length places) w
 unfolding ended

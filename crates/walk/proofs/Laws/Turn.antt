@@ -1,20 +1,20 @@
 -- One level of a walk: what the descriptor comes to decides how the walk goes on, in either stage.
-use Prim.Native.Nat.{ℕ, zero, suc, _+_, _-_, _%_, _≤_, _<_}
-use mathlib.Core.Path.{_≡_, refl, sym, ap, subst, _∙_}
+use Prim.Native.Nat.{ℕ, zero, suc, _+_, _-_, _%_, _≤_}
+use mathlib.Core.Path.{_≡_, refl, sym, ap, _∙_}
 use mathlib.Core.Bool.{Bool, true, false, cond, _&&_}
-use mathlib.Core.List.{List, [], _∷_, _++_}
+use mathlib.Core.List.{List, [], _∷_}
 use mathlib.Core.Option.{Option, none, some}
 use native.Mathlib.Omega.{arith}
-use lib.Dec.{eqb, ltb}
+use lib.Dec.{eqb}
 use Rattle.walk.specs.declared.Kind.the-variants.{WalkAbort, Translation, NotModelled, AccessFlag, Permission}
 use Rattle.walk.specs.declared.Step.{Step}
 use Rattle.walk.specs.declared.Step.the-variants.{Absent, Down, Output, Fail}
 use Rattle.walk.specs.Memory.{read-at}
 use Rattle.walk.specs.Descriptor.{span, slot, bit, address, is-table, is-valid, is-modelled, allows-1, allows-2}
 use Rattle.walk.specs.Stage.{Stage, valid, leaf, meaning, walk-from}
-use Rattle.walk.specs.Both.{Walked, ends, having-fetched, fetched-at, One, failed, Both, through, rules-1, rules-2, fetch-1, fetch-2, stage-2}
+use Rattle.walk.specs.Both.{Walked, ends, having-fetched, fetched-at, failed, Both, through, rules-1, rules-2, fetch-1, fetch-2, stage-2}
 use Rattle.walk.specs.Both.{fault, during}
-use Rattle.walk.specs.Steps.{allows, steps, step-of, step-read, step-at, rest-1, rest-2}
+use Rattle.walk.specs.Steps.{allows, step-of, step-read, step-at, rest-1, rest-2}
 
 and-false : (x : Bool) → (x && false) ≡ false
 and-false true = refl

@@ -7,7 +7,7 @@ use lib.ListN.{length}
 use Rattle.walk.specs.declared.Kind.{Kind}
 use Rattle.walk.specs.declared.Kind.the-variants.{WalkAbort}
 use Rattle.walk.specs.declared.Answer.{Answer}
-use Rattle.walk.specs.declared.Answer.the-variants.{Found, Fault, During}
+use Rattle.walk.specs.declared.Answer.the-variants.{Fault, During}
 use Rattle.walk.specs.declared.Ended.{Ended}
 use Rattle.walk.specs.declared.Ended.the-variants.{Reached, Failed}
 use Rattle.walk.specs.declared.Step.{Step}

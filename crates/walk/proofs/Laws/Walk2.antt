@@ -1,17 +1,16 @@
 -- A turn of the loop over the levels of stage 2, as its code sees it.
 use Prim.Native.Nat.{ℕ, _+_, _-_, _≤_, _<_, _^_}
-use mathlib.Core.Path.{_≡_, refl, sym, ap, subst, _∙_}
+use mathlib.Core.Path.{_≡_, sym, ap, subst, _∙_}
 use mathlib.Core.List.{List, [], _∷_}
 use native.Mathlib.Omega.{arith}
 use Rattle.walk.specs.declared.Kind.{Kind}
 use Rattle.walk.specs.declared.Kind.the-variants.{WalkAbort}
-use Rattle.walk.specs.declared.Ended.{Ended}
 use Rattle.walk.specs.declared.Ended.the-variants.{Reached, Failed}
 use Rattle.walk.specs.declared.Step.{Step}
 use Rattle.walk.specs.declared.Step.the-variants.{Absent, Down, Output, Fail}
 use Rattle.walk.specs.Descriptor.{slot}
-use Rattle.walk.specs.Both.{Walked, ends, One, failed, rules-2, stage-2}
-use Rattle.walk.specs.Steps.{allows, step-at, end-by, ended, rest-2}
+use Rattle.walk.specs.Both.{ends, failed, rules-2, stage-2}
+use Rattle.walk.specs.Steps.{allows, step-at, ended, rest-2}
 use Rattle.walk.proofs.Laws.Turn.{replay, turn-2}
 use Rattle.walk.proofs.Laws.Told.{ended-more, ended-now}
 use Rattle.walk.proofs.Laws.Bounds.{Sane, step-sane}

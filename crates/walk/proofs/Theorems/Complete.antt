@@ -3,21 +3,18 @@
 -- Any bytes, any roots, any access and level; a virtual address below 2^48.
 use Prim.Native.Nat.{ℕ, zero, suc, _+_, _*_, _-_, _<_, _^_}
 use mathlib.Core.Path.{_≡_, refl, sym, ap, subst, _∙_}
-use mathlib.Core.Bool.{Bool, true, cond}
 use mathlib.Core.List.{List, [], _∷_}
 use mathlib.Core.Option.{Option, none, some}
 use native.Mathlib.Omega.{arith}
 use borrow.Author.Tests.{lt-ltb}
-use lib.Dec.{ltb}
 use lib.ListN.{length, length-append}
-use Rattle.walk.specs.declared.Kind.{Kind}
 use Rattle.walk.specs.declared.Kind.the-variants.{WalkAbort, Translation}
 use Rattle.walk.specs.declared.Step.{Step}
 use Rattle.walk.specs.declared.Step.the-variants.{Absent, Down, Output, Fail}
 use Rattle.walk.specs.Memory.{read-at}
 use Rattle.walk.specs.Descriptor.{slot, allows-1}
 use Rattle.walk.specs.Stage.{Stage, meaning, walk-from}
-use Rattle.walk.specs.Both.{Walked, ends, having-fetched, fetched-at, One, reached, failed, Both, found, fault, during, by-result, through}
+use Rattle.walk.specs.Both.{Walked, ends, fetched-at, One, reached, failed, Both, found, fault, during, by-result}
 use Rattle.walk.specs.Both.{rules-1, fetch-1, stage-1, stage-2, both}
 use Rattle.walk.specs.Steps.{step-of, rest-1}
 use Rattle.walk.proofs.Laws.Turn.{play, plays, turn-last}

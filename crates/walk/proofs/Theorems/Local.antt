@@ -1,11 +1,10 @@
 -- Locality: two images of the same size and place that agree on the descriptors that the walk fetched give the same answer.
 -- Any bytes, any numbers. What is stored elsewhere changes no walk.
-use Prim.Native.Nat.{ℕ, zero, suc, _+_, _-_, _≤_, _<_, _^_}
+use Prim.Native.Nat.{ℕ, zero, suc, _+_, _-_, _^_}
 use mathlib.Core.Path.{_≡_, refl, sym, ap, subst, _∙_}
 use mathlib.Core.Bool.{Bool, true, false, cond, _&&_}
 use mathlib.Core.List.{List, [], _∷_, _++_}
 use mathlib.Core.Option.{Option, none, some}
-use native.Mathlib.Omega.{arith}
 use lib.Dec.{ltb, leb}
 use lib.ListN.{length}
 use Rattle.memory.specs.Word.{wordAt}
@@ -16,11 +15,11 @@ use Rattle.walk.specs.declared.Answer.the-variants.{Refused}
 use Rattle.walk.specs.declared.Step.{Step}
 use Rattle.walk.specs.declared.Step.the-variants.{Absent, Down, Output, Fail}
 use Rattle.walk.specs.Memory.{in-ram, read-at}
-use Rattle.walk.specs.Descriptor.{slot, allows-1, allows-2}
+use Rattle.walk.specs.Descriptor.{slot}
 use Rattle.walk.specs.Stage.{Stage, meaning, walk-from}
 use Rattle.walk.specs.Both.{Walked, ends, having-fetched, fetched-at, One, reached, failed, Both, found, fault, during, by-result, through, tell, tell-2}
 use Rattle.walk.specs.Both.{rules-1, rules-2, fetch-1, fetch-2, stage-1, stage-2, both, stage2-fits, both-fits, answer-2, answer}
-use Rattle.walk.specs.Steps.{step-of, rest-1, rest-2}
+use Rattle.walk.specs.Steps.{step-of}
 use Rattle.walk.proofs.Laws.Turn.{play, plays, turn-last}
 
 -- the images m and m′ agree on the words at these physical addresses

@@ -1,14 +1,14 @@
 -- "Refused with an answer of its own, REFUSED" (document 01, section 5): the answer is REFUSED exactly where an argument does not fit.
 -- Any bytes, any numbers.
 use Prim.Native.Nat.{ℕ}
-use mathlib.Core.Path.{_≡_, refl, sym, ap, _∙_}
+use mathlib.Core.Path.{_≡_, refl, sym, ap}
 use mathlib.Core.Bool.{Bool, true, false, cond}
 use mathlib.Core.List.{List}
 use lib.ListN.{length}
 use mathlib.Core.Logic.{_↔_}
 use native.Mathlib.Omega.{arith}
 use Rattle.walk.specs.declared.Answer.{Answer}
-use Rattle.walk.specs.declared.Answer.the-variants.{Found, Fault, During, Refused}
+use Rattle.walk.specs.declared.Answer.the-variants.{Refused}
 use Rattle.walk.specs.Both.{One, reached, failed, Both, found, fault, during, tell, tell-2, stage-2, both, stage2-fits, both-fits, answer-2, answer}
 
 told-2 : (r : One) (n : ℕ) → tell-2 r n ≡ Refused → ⊥

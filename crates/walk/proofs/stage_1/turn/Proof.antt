@@ -1,7 +1,6 @@
 -- Written by tools/prove from the file answers beside it: edit that, and not this.
 -- The descriptor's way through stage 2, and then the descriptor, decide how the walk goes on.
-use Prim.Native.Nat.{_+_, _-_, _≤_, _<_, _^_}
-use mathlib.Core.Path.{_≡_, subst, _∙_, sym}
+use mathlib.Core.Path.{subst, sym}
 use Rattle.walk.proofs.Laws.Short.{LowEnd}
 use Rattle.walk.proofs.Laws.Walk1.{was-lost, way-low, went-down, below, went-out, went-wrong, was-absent}
 use borrow.Author.Needs.{needs}
@@ -22,7 +21,7 @@ enum-known-way-2 : tie.Need-enum-known-way-2
 enum-known-way-2 c = search needs
 
 visit-requires : tie.Need-visit-requires
-visit-requires c κs = let low = subst (LowEnd _) (c .before .way2 .given .1) (way-low _ _ _ 0 0 _ _ _ _ (c .before .before .before .before .before .before .pre .0) (c .before .before .before .before .place .ensures .0) (c .before .before .before .walk .ensures)) in
+visit-requires c κs = let low = (subst (LowEnd _) (c .before .way2 .given .1) (way-low _ _ _ 0 0 _ _ _ _ (c .before .before .before .before .before .before .pre .0) (c .before .before .before .before .place .ensures .0) (c .before .before .before .walk .ensures))) in
     let low0 = low .0 in
     (omega arith, omega arith)
 
@@ -30,7 +29,7 @@ enum-known-step : tie.Need-enum-known-step
 enum-known-step c = search needs
 
 add-t24 : tie.Need-add-t24
-add-t24 c = let low = subst (LowEnd _) (c .before .before .before .before .before .way2 .given .1) (way-low _ _ _ 0 0 _ _ _ _ (c .before .before .before .before .before .before .before .before .before .before .pre .0) (c .before .before .before .before .before .before .before .before .place .ensures .0) (c .before .before .before .before .before .before .before .walk .ensures)) in
+add-t24 c = let low = (subst (LowEnd _) (c .before .before .before .before .before .way2 .given .1) (way-low _ _ _ 0 0 _ _ _ _ (c .before .before .before .before .before .before .before .before .before .before .pre .0) (c .before .before .before .before .before .before .before .before .place .ensures .0) (c .before .before .before .before .before .before .before .walk .ensures))) in
     let low1 = low .1 in
     omega arith
 
@@ -38,12 +37,12 @@ enum-known-step-2 : tie.Need-enum-known-step-2
 enum-known-step-2 c = search needs
 
 add-walk : tie.Need-add-walk
-add-walk c = let low = subst (LowEnd _) (c .before .before .before .before .before .way2 .given .1) (way-low _ _ _ 0 0 _ _ _ _ (c .before .before .before .before .before .before .before .before .before .before .pre .0) (c .before .before .before .before .before .before .before .before .place .ensures .0) (c .before .before .before .before .before .before .before .walk .ensures)) in
+add-walk c = let low = (subst (LowEnd _) (c .before .before .before .before .before .way2 .given .1) (way-low _ _ _ 0 0 _ _ _ _ (c .before .before .before .before .before .before .before .before .before .before .pre .0) (c .before .before .before .before .before .before .before .before .place .ensures .0) (c .before .before .before .before .before .before .before .walk .ensures))) in
     let low1 = low .1 in
     omega arith
 
 walk-requires-2 : tie.Need-walk-requires-2
-walk-requires-2 c κs = let low = subst (LowEnd _) (c .before .before .before .before .before .way2 .given .1) (way-low _ _ _ 0 0 _ _ _ _ (c .before .before .before .before .before .before .before .before .before .before .pre .0) (c .before .before .before .before .before .before .before .before .place .ensures .0) (c .before .before .before .before .before .before .before .walk .ensures)) in
+walk-requires-2 c κs = let low = (subst (LowEnd _) (c .before .before .before .before .before .way2 .given .1) (way-low _ _ _ 0 0 _ _ _ _ (c .before .before .before .before .before .before .before .before .before .before .pre .0) (c .before .before .before .before .before .before .before .before .place .ensures .0) (c .before .before .before .before .before .before .before .walk .ensures))) in
     let low1 = low .1 in
     (omega arith, omega arith)
 
@@ -54,7 +53,7 @@ enum-known-step-3 : tie.Need-enum-known-step-3
 enum-known-step-3 c = search needs
 
 add-t28 : tie.Need-add-t28
-add-t28 c = let low = subst (LowEnd _) (c .before .before .before .before .before .way2 .given .1) (way-low _ _ _ 0 0 _ _ _ _ (c .before .before .before .before .before .before .before .before .before .before .pre .0) (c .before .before .before .before .before .before .before .before .place .ensures .0) (c .before .before .before .before .before .before .before .walk .ensures)) in
+add-t28 c = let low = (subst (LowEnd _) (c .before .before .before .before .before .way2 .given .1) (way-low _ _ _ 0 0 _ _ _ _ (c .before .before .before .before .before .before .before .before .before .before .pre .0) (c .before .before .before .before .before .before .before .before .place .ensures .0) (c .before .before .before .before .before .before .before .walk .ensures))) in
     let low1 = low .1 in
     omega arith
 
@@ -65,7 +64,7 @@ returns : tie.Need-returns
 returns c = sym (was-lost _ _ _ _ _ _ _ _ _ (c .before .before .before .before .before .before .pre .0) (c .before .before .before .before .place .ensures .0) (c .before .before .before .walk .ensures) _ _ _ (c .before .way .given .1))
 
 returns-2 : tie.Need-returns-2
-returns-2 c = let low = subst (LowEnd _) (c .before .before .before .before .before .way2 .given .1) (way-low _ _ _ 0 0 _ _ _ _ (c .before .before .before .before .before .before .before .before .before .before .pre .0) (c .before .before .before .before .before .before .before .before .place .ensures .0) (c .before .before .before .before .before .before .before .walk .ensures)) in
+returns-2 c = let low = (subst (LowEnd _) (c .before .before .before .before .before .way2 .given .1) (way-low _ _ _ 0 0 _ _ _ _ (c .before .before .before .before .before .before .before .before .before .before .pre .0) (c .before .before .before .before .before .before .before .before .place .ensures .0) (c .before .before .before .before .before .before .before .walk .ensures))) in
     let low1 = low .1 in
     let up = below _ _ _ _ _ _ _ _ _ (c .before .before .before .before .before .before .before .before .before .before .pre .0) (c .before .before .before .before .before .before .before .before .place .ensures .0) (c .before .before .before .before .before .before .before .walk .ensures) (c .before .before .before .before .before .way2 .given .1) (c .before .before .before .visit .ensures) _ (c .before .step .given .1) in
     (up .0, up .1, omega arith, went-down _ _ _ _ _ _ _ _ _ (c .before .before .before .before .before .before .before .before .before .before .pre .0) (c .before .before .before .before .before .before .before .before .place .ensures .0) (c .before .before .before .before .before .before .before .walk .ensures) (c .before .before .before .before .before .way2 .given .1) (c .before .before .before .visit .ensures) _ (c .before .step .given .1))
