@@ -13,7 +13,7 @@ use Rattle.model.specs.State.{State, Kind, guests, is-guest}
 use Rattle.model.specs.Operations.{Out, refuse, done, refusal, check}
 use Rattle.model.specs.Cache.{Caches}
 use Rattle.model.specs.Invariant.Core.{Core, Kept}
-use Rattle.model.specs.Invariant.Answer.{Good, core-alone, then-is}
+use Rattle.model.specs.Invariant.Answer.{Then, Good, core-alone, then-is}
 use Rattle.ledger.specs.Layout.{size-of, state-in, state-of, pick-of}
 use Rattle.ledger.specs.Fields.{remade, with-kind}
 use Rattle.ledger.specs.Stock.{Stock, Changed, Taken}
@@ -67,14 +67,18 @@ passed true k o h e = (refl, e)
 passed false k o h e = absurd (omega arith)
 
 -- Sound after it: model's invariant holds of what the operation makes
-pub still-sound : (m l m′ l′ : List ℕ) (o : Out) → Sound m l → ((k : Caches) → Kept (state-of m l) k → Good k o) → o ≡ done (state-of m′ l′) → Stock l′ → length m′ ≡ length m →
-    state-of m′ l′ .size ≡ state-of m l .size → Sound m′ l′
+pub core-sound : (m l m′ l′ : List ℕ) (o : Out) → Sound m l → Then Core o → o ≡ done (state-of m′ l′) → Stock l′ → length m′ ≡ length m → state-of m′ l′ .size ≡ state-of m l .size → Sound m′ l′
 unfolding state-in
-still-sound m l m′ l′ o s good e stock len size = record {
+core-sound m l m′ l′ o s core e stock len size = record {
   stock = stock;
   ram-fits = let a = s .ram-fits in let b : size-of l′ ≡ size-of l = size in omega arith;
-  core = then-is o (state-of m′ l′) (core-alone (state-of m l) o good) e;
+  core = then-is o (state-of m′ l′) core e;
 }
+
+-- the same of an operation that forgets nothing of what is kept
+pub still-sound : (m l m′ l′ : List ℕ) (o : Out) → Sound m l → ((k : Caches) → Kept (state-of m l) k → Good k o) → o ≡ done (state-of m′ l′) → Stock l′ → length m′ ≡ length m →
+    state-of m′ l′ .size ≡ state-of m l .size → Sound m′ l′
+still-sound m l m′ l′ o s good e stock len size = core-sound m l m′ l′ o s (core-alone (state-of m l) o good) e stock len size
 
 -- a frame is still there when another field has changed
 pub still-low : {φ : State → State} {l l′ : List ℕ} → Changed φ l l′ → ((s : State) → φ s .size ≡ s .size) → (f : ℕ) → f < size-of l → f < size-of l′
