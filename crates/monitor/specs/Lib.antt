@@ -5,3 +5,6 @@ pub mod Give
 pub mod Upto
 pub mod Invalidated
 pub mod Destroy
+pub mod Quiet
+pub mod Take
+pub mod Share

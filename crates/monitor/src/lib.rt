@@ -2,4 +2,5 @@
 // An operation is a check, which only borrows, so that a refusal changes nothing; and then a doing, which cannot fail.
 pub mod guests;
 pub mod pages;
+pub mod sharing;
 pub mod start;

@@ -1,9 +1,9 @@
 // Document 01, sections 2 and 3: what a 64-bit descriptor says at a level.
 ghost use mathlib.Core.Path.{_≡_};
-ghost use mathlib.Core.Bool.{cond, _&&_};
+ghost use mathlib.Core.Bool.{cond, _&&_, _||_};
 ghost use Prim.Native.Nat.{_+_, _*_, _-_, _<_, _≤_, _^_, _/_, _%_};
 ghost use lib.Dec.{eqb};
-ghost use Rattle.walk.specs.Descriptor.{span, slot, address, allows-1, allows-2};
+ghost use Rattle.walk.specs.Descriptor.{span, slot, address, is-table as table·of, is-block, is-page, allows-1, allows-2};
 ghost use Rattle.walk.specs.Stage.{leaf};
 ghost use Rattle.walk.specs.Steps.{allows, steps, step-of};
 ghost use Rattle.walk.specs.declared.Kind.the-variants.{NotModelled};
@@ -125,24 +125,42 @@ fn block_or_page(stage: u64, el: u64, access: u64, ia: u64, level: u64, d: u64) 
     Step::Fail(Kind::NotModelled)
 }
 
-// Section 4, points 2 to 5.
-pub(crate) fn examine(stage: u64, el: u64, access: u64, ia: u64, level: u64, d: u64) -> Step
-    requires { ⌜ level ≤ 3 ⌝ }
-    ensures { λ r. ⌜ r ≡ step-of (allows stage el access) ia level d ⌝ }
+fn is_table(level: u64, d: u64) -> bool
+    ensures { λ r. ⌜ r ≡ table·of level d ⌝ }
+{
+    if d % 4 == 3 {
+        return level < 3;
+    }
+    false
+}
+
+fn is_block_or_page(level: u64, d: u64) -> bool
+    ensures { λ r. ⌜ r ≡ (is-block level d || is-page level d) ⌝ }
 {
     let kind = d % 4;
     if kind == 3 {
-        if level < 3 {
-            return table(d);
-        }
-        return block_or_page(stage, el, access, ia, level, d);
+        return level == 3;
     }
     if kind == 1 {
         if 0 < level {
             if level < 3 {
-                return block_or_page(stage, el, access, ia, level, d);
+                return true;
             }
         }
+    }
+    false
+}
+
+// Section 4, points 2 to 5. Each part is called from one place, so that the compiler puts the whole into the walks.
+pub(crate) fn examine(stage: u64, el: u64, access: u64, ia: u64, level: u64, d: u64) -> Step
+    requires { ⌜ level ≤ 3 ⌝ }
+    ensures { λ r. ⌜ r ≡ step-of (allows stage el access) ia level d ⌝ }
+{
+    if is_table(level, d) {
+        return table(d);
+    }
+    if is_block_or_page(level, d) {
+        return block_or_page(stage, el, access, ia, level, d);
     }
     Step::Fail(Kind::Translation)
 }
