@@ -8,3 +8,7 @@ pub mod Destroy
 pub mod Quiet
 pub mod Take
 pub mod Share
+pub mod Way
+pub mod Unmap
+pub mod Map
+pub mod Found

@@ -1,0 +1,78 @@
+#!/usr/bin/env python3
+"""link.py: the header is clean C and C++, the examples link the library and print what they should, programs for Arm link it with
+nothing beside it, and the Rust crate agrees with a second implementation of document 01. Wants the kit, cc, c++ and cargo, and
+out/ as ./build writes it."""
+
+import os
+import pathlib
+import platform
+import re
+import subprocess
+import tempfile
+
+import tally
+
+HERE = pathlib.Path(__file__).resolve().parent.parent
+EXPECTED = "0x40001abc fetched 4\n"
+STRICT = ["-Wall", "-Wextra", "-pedantic", "-Werror"]
+
+
+def run(command, expected=None, **environment):
+    """Runs a command; says what went wrong, or None. What it printed is in run.printed."""
+    run.printed = ""
+    try:
+        ran = subprocess.run(command, cwd=HERE, stdout=subprocess.PIPE, stderr=subprocess.STDOUT, text=True,
+                             env={**os.environ, **environment})
+    except OSError as problem:
+        return str(problem)
+    run.printed = ran.stdout
+    if ran.returncode != 0:
+        return f"{' '.join(map(str, command))} ended with status {ran.returncode}:\n{ran.stdout[-2000:]}"
+    if expected is not None and ran.stdout != expected:
+        return f"printed {ran.stdout!r}, and not {expected!r}"
+    return None
+
+
+def linked_alone(folder, triple, work):
+    """Links a program for Arm that has the address of each function, with the kit's linker and no other library."""
+    if problem := run(["rt", "doc"]):
+        return problem
+    tools = pathlib.Path(run.printed.strip()).parent.parent / "on" / platform.machine() / "toolchain/bin"
+    names = sorted(set(re.findall(r"^\w+ (pageledger_\w+)\(", (HERE / "out/include/pageledger.h").read_text(), re.M)))
+    source, program = pathlib.Path(work, "alone.c"), f"{work}/alone-{folder}"
+    source.write_text("".join(f"extern char {n}[];\n" for n in names) + "char *_start[] = {" + ", ".join(names) + "};\n")
+    if not names:
+        return "the header has no functions"
+    library = HERE / "out" / folder / "libpageledger.a"
+    return (run([tools / "clang", f"--target={triple}", "-c", source, "-o", f"{program}.o"])
+            or run([tools / "ld.lld", f"{program}.o", library, "-o", program]))
+
+
+def main():
+    count = tally.Tally()
+    library = HERE / "out" / f"{platform.machine()}-linux" / "libpageledger.a"
+    for compiler, language, standard in (("cc", "c", "c99"), ("cc", "c", "c11"), ("c++", "c++", "c++11"), ("c++", "c++", "c++17")):
+        command = [compiler, "-x", language, f"-std={standard}", *STRICT, "-fsyntax-only", "out/include/pageledger.h"]
+        count.check(f"the header as {standard}", run(command))
+    with tempfile.TemporaryDirectory() as work:
+        for compiler, language, standard in (("cc", "c", "c99"), ("c++", "c++", "c++11")):
+            program = f"{work}/walk-{standard}"
+            command = [compiler, "-x", language, f"-std={standard}", *STRICT, "-Iout/include", "examples/walk.c",
+                       "-x", "none", library, "-o", program]
+            count.check(f"examples/walk.c as {standard}", run(command) or run([program], EXPECTED))
+        for folder, triple in (("aarch64-linux", "aarch64-unknown-linux-gnu"), ("aarch64-none-elf", "aarch64-none-elf")):
+            count.check(f"a program for {folder}", linked_alone(folder, triple, work))
+    cargo = {"CARGO_TARGET_DIR": str(HERE / "target/host"), "CARGO_NET_OFFLINE": "true"}
+    command = ["cargo", "run", "--quiet", "--manifest-path", "examples/rust/Cargo.toml"]
+    count.check("examples/rust", run(command, EXPECTED, **cargo))
+    command = ["cargo", "test", "--manifest-path", "host/Cargo.toml", "--", "--nocapture", "--test-threads=1"]
+    problem = run(command, **cargo)
+    for line in run.printed.splitlines():
+        if re.match(r" *\d+ (both|stage)|seed ", line):
+            print(line)
+    ran = re.findall(r"^test (\w+) \.\.\.", run.printed, re.M)
+    count.check("host/ builds, and its three tests run", problem or (None if {"sizes", "walks", "worked_image"} <= set(ran) else f"ran {ran}"))
+    count.finish()
+
+
+main()
