@@ -12,3 +12,4 @@ pub mod Way
 pub mod Unmap
 pub mod Map
 pub mod Found
+pub mod Questions

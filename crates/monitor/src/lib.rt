@@ -3,5 +3,23 @@
 pub mod guests;
 pub mod mapping;
 pub mod pages;
+pub mod questions;
 pub mod sharing;
 pub mod start;
+
+// What a frame is; Outside where there is no such frame. A page is mapped in so many places.
+pub enum FrameKind {
+    Outside,
+    Monitor,
+    Free,
+    Table(u64),
+    Draining(u64),
+    Page { owner: u64, mapped: u64 },
+}
+
+// What a guest is, with its root table's physical address; Nobody where there is no such number.
+pub enum GuestKind {
+    Nobody,
+    Absent { dirty: bool },
+    Present { root: u64, dirty: bool },
+}
