@@ -6,7 +6,6 @@ use mathlib.Core.List.{List}
 use Prim.Native.Nat.{ℕ, _+_, _*_, _<_, _/_}
 use native.Mathlib.Omega.{arith}
 use lib.Dec.{ltb, leb}
-use lib.ListN.{length}
 use Rattle.memory.specs.Word.{wordAt}
 use Rattle.walk.specs.Both.{stage-2}
 use Rattle.model.specs.State.{State, pages, free-frames}

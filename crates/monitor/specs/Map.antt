@@ -1,18 +1,17 @@
 -- map: the tests on the arguments, the plan that the check makes, the tables that the doing makes, and the two slices after it.
 use mathlib.Core.Path.{_≡_, refl, sym, ap, subst, _∙_}
 use mathlib.Core.Bool.{Bool, true, false, not, _&&_, _||_}
-use mathlib.Core.Logic.{_⊎_, inl, inr}
-use mathlib.Core.Option.{Option, none, some}
+use mathlib.Core.Logic.{inl, inr}
+use mathlib.Core.Option.{Option}
 use mathlib.Core.List.{List}
-use Prim.Native.Nat.{ℕ, zero, suc, pred, _+_, _*_, _-_, _<_, _≤_, _/_, _%_, _^_}
+use Prim.Native.Nat.{ℕ, zero, suc, _+_, _*_, _-_, _<_, _≤_, _/_, _%_, _^_}
 use native.Mathlib.Omega.{arith}
 use native.Mathlib.Nat.{div-add-mod'}
-use native.Mathlib.Numerals.{add-one}
 use lib.Dec.{eqb, ltb, leb}
 use lib.ListN.{length}
 use borrow.Author.Tests.{le-leb, lt-leb, lt-ltb, le-ltb, ne-eqb}
 use Rattle.model.specs.Base.{lt?, upd, upd-same, upd2}
-use Rattle.model.specs.State.{State, Kind, free, table, page, pages, is-guest, is-page, is-page-of, free-frames}
+use Rattle.model.specs.State.{State, free, table, page, pages, is-guest, is-page, is-page-of, free-frames}
 use Rattle.model.specs.Entry.{empty, table-entry, page-entry}
 use Rattle.model.specs.Translate.{upper, index, entry-at, Page, is-some, mapped, missing}
 use Rattle.model.specs.Changes.{zeros, with-table, Grown, grow, with-page, with-mapping}
@@ -26,10 +25,9 @@ use Rattle.model.specs.Invariant.Answer.{core-alone, then-is, may-is}
 use Rattle.model.specs.Invariant.MapUnmap.{address-low, map-good}
 use Rattle.ledger.specs.Layout.{size-of, first-of, exists-of, kind-of, shared-of, count-of, word-of, pick-of, state-in, state-of}
 use Rattle.ledger.specs.Fields.{remade, with-kind, with-count, with-words}
-use Rattle.ledger.specs.Stock.{Stock, Changed, Taken}
+use Rattle.ledger.specs.Stock.{Changed, Taken}
 use Rattle.ledger.specs.Words.{Within, state-words}
-use Rattle.ledger.specs.Laws.{guest-low}
-use Rattle.ledger.specs.Sound.{Sound, free-of, free-is, chosen, within, guest-there, count-fits}
+use Rattle.ledger.specs.Sound.{Sound, free-of, free-is, chosen, within, count-fits}
 use Rattle.monitor.specs.declared.mapping.Plan.{Plan}
 use Rattle.monitor.specs.declared.mapping.Plan.the-variants.{Stop, Go}
 use Rattle.monitor.specs.Answers.{Operation, Done, passed}
@@ -398,12 +396,6 @@ module _ (m₀ l₀ : List ℕ) (ok : Sound m₀ l₀) (f g a r t₀ h₀ : ℕ)
       made = made;
     }
       where
-        i : ℕ
-        i = a / 4096 % 512
-
-        W : ℕ → ℕ → ℕ
-        W = upd2 (word-of m) t (a / 4096 % 512) (page-entry (first-of l) f r)
-
         words : word-of m′ ≡ upd2 (word-of m) t (a / 4096 % 512) (page-entry (first-of l) f r)
         words = ew ∙ ap (upd2 (word-of m) t (a / 4096 % 512)) (ey ∙ ap (λ (b : ℕ). page-entry b f r) ef)
 

@@ -1,30 +1,28 @@
 -- unmap: the plan that the check makes, and the two slices after the doing.
 use mathlib.Core.Path.{_≡_, refl, sym, ap, subst, _∙_}
-use mathlib.Core.Bool.{Bool, true, false, _&&_}
-use mathlib.Core.Logic.{_⊎_, inl, inr}
-use mathlib.Core.Option.{Option, none, some}
+use mathlib.Core.Bool.{true, false}
+use mathlib.Core.Logic.{inl, inr}
+use mathlib.Core.Option.{none, some}
 use mathlib.Core.List.{List}
-use Prim.Native.Nat.{ℕ, zero, suc, pred, _+_, _*_, _-_, _<_, _≤_, _/_, _%_, _^_}
+use Prim.Native.Nat.{ℕ, pred, _+_, _-_, _<_, _≤_, _/_, _%_, _^_}
 use native.Mathlib.Omega.{arith}
 use native.Mathlib.Numerals.{sub-one}
-use lib.Dec.{eqb, ltb}
 use lib.ListN.{length}
-use Rattle.model.specs.Base.{upd, upd2, lt?}
-use Rattle.model.specs.State.{State, Kind, table, page, pages, is-guest}
+use Rattle.model.specs.Base.{upd2, lt?}
+use Rattle.model.specs.State.{State, table, page, is-guest}
 use Rattle.model.specs.Entry.{to-page}
-use Rattle.model.specs.Translate.{upper, entry-at, leaf, translate, is-some, mapped}
+use Rattle.model.specs.Translate.{upper, entry-at, leaf, translate, mapped}
 use Rattle.model.specs.Changes.{without-page, without-mapping}
-use Rattle.model.specs.Operations.{Out, refuse, done, refusal, check, page-address, unmap}
+use Rattle.model.specs.Operations.{refuse, done, check, page-address, unmap}
 use Rattle.model.specs.WalkLaws.{At, Shows, shows}
-use Rattle.model.specs.Invariant.Core.{Core, May, places, low}
+use Rattle.model.specs.Invariant.Core.{May, low}
 use Rattle.model.specs.Invariant.Counts.{places-zero}
 use Rattle.model.specs.Invariant.Way.{translate-at}
 use Rattle.model.specs.Invariant.MapUnmap.{without-is, unmap-good}
 use Rattle.ledger.specs.Layout.{size-of, first-of, exists-of, kind-of, count-of, word-of, pick-of, state-in, state-of}
 use Rattle.ledger.specs.Fields.{remade, with-count, with-dirt, with-words}
-use Rattle.ledger.specs.Stock.{Stock, Changed}
+use Rattle.ledger.specs.Stock.{Changed}
 use Rattle.ledger.specs.Words.{Within, state-words}
-use Rattle.ledger.specs.Laws.{guest-low}
 use Rattle.ledger.specs.Sound.{Sound, within, guest-there, count-fits}
 use Rattle.monitor.specs.declared.mapping.Plan.{Plan}
 use Rattle.monitor.specs.declared.mapping.Plan.the-variants.{Stop, Go}

@@ -1,10 +1,10 @@
 -- The way of a page number through a guest's tables, as the code goes it: what is known where it stands, and where it ends.
 use mathlib.Core.Path.{_≡_, refl, sym, ap, subst, _∙_}
-use mathlib.Core.Bool.{Bool, true, false}
+use mathlib.Core.Bool.{true, false}
 use mathlib.Core.Logic.{_⊎_, inl, inr}
 use mathlib.Core.Option.{Option, none, some}
 use mathlib.Core.List.{List}
-use Prim.Native.Nat.{ℕ, zero, suc, _+_, _*_, _-_, _<_, _≤_, _/_, _%_, _^_}
+use Prim.Native.Nat.{ℕ, zero, suc, _-_, _<_, _≤_, _/_, _%_, _^_}
 use native.Mathlib.Omega.{arith}
 use Rattle.model.specs.State.{State, table, pages}
 use Rattle.model.specs.Translate.{upper, index, entry-at, descend, missing-from, missing, Page, leaf, translate, is-some, mapped}

@@ -1,6 +1,5 @@
 -- Written by tools/prove from the file answers beside it: edit that, and not this.
 -- Test by test.
-use Rattle.model.specs.Operations.{shares}
 use Rattle.monitor.specs.Map.{shares-none, shares-run, shares-read, shares-write}
 use Rattle.monitor.proofs.mapping.shares.Statement.{statement}
 use Rattle.monitor.proofs.mapping.shares.Tie as tie

@@ -1,7 +1,6 @@
 -- Written by tools/prove from the file answers beside it: edit that, and not this.
 -- Height by height.
 use mathlib.Core.Path.{_≡_}
-use Prim.Native.Nat.{ℕ}
 use Rattle.model.specs.Translate.{upper}
 use native.Mathlib.Omega.{arith}
 use Rattle.monitor.proofs.mapping.upper.Statement.{statement}
