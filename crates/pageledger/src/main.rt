@@ -5,7 +5,7 @@ ghost use lib.ListN.{length};
 ghost use Rattle.pageledger.specs.Ready.{Ready, Goes};
 use libc::STDIN_FILENO;
 use libc::STDOUT_FILENO;
-use script::Machine;
+use machine::Machine;
 
 // The machine, and how many bytes of the line and of the output are there.
 struct State {
@@ -127,7 +127,7 @@ fn serve(line: &mut [u8], ram: &mut [u8], out: &mut [u8])
     requires { ⌜ 256 ≤ length (now out) ⌝ }
 {
     let mut s = State {
-        machine: script::no_machine(),
+        machine: machine::no_machine(),
         line: 0,
         out: 0,
     };

@@ -1,5 +1,1 @@
-mod Reading
-mod Scanning
 mod Parsing
-mod Answering
-mod Printing

@@ -17,10 +17,10 @@ use Rattle.script.specs.declared.command.Argument.{Argument}
 use Rattle.script.specs.declared.command.Argument.the-variants.{Given, Wrong}
 use Rattle.script.specs.declared.command.Reason.{Reason}
 use Rattle.script.specs.declared.command.Reason.the-variants.{TooFewWords, TooManyWords}
-use Rattle.script.specs.declared.command.Command.{Command}
-use Rattle.script.specs.declared.command.Command.the-variants.{Nothing, Unread}
-use Rattle.script.specs.Words.{unblank, wordOf, afterWord, Ended}
-use Rattle.script.specs.Commands.{formsOf, commandWith, argumentOf, Values, values, failed, joined, valuesOf, commandFrom, firstOf, afterFirst, commandIn}
+use Rattle.script.specs.declared.command.Read.{Read}
+use Rattle.script.specs.declared.command.Read.the-variants.{Nothing, Asked, Unread}
+use Rattle.text.specs.Words.{unblank, wordOf, afterWord, Ended}
+use Rattle.script.specs.Commands.{formsOf, commandWith, argumentOf, Values, values, failed, joined, valuesOf, readFrom, firstOf, afterFirst, readIn}
 
 -- the forms that are no numbers stand at their places
 pub plain-setup : (i : ℕ) → Plain ≡ getD (formsOf Setup) i Plain
@@ -91,7 +91,7 @@ unfolding valuesOf
 few-at fs i s at from h e u = rw (drop-cons fs i Plain h, eq-eqb _ _ (empty s at from e u))
 
 pub too-few : {v : Verb} {s a : List ℕ} {at i from : ℕ} → Reading v s a at i → i < length (formsOf v) → from ≡ length s
-    → drop from s ≡ unblank (drop at s) → Unread TooFewWords ≡ commandFrom v (valuesOf (formsOf v) s)
+    → drop from s ≡ unblank (drop at s) → Unread TooFewWords ≡ readFrom v (valuesOf (formsOf v) s)
 unfolding before
 too-few {v} {s} {a} {at} {i} {from} p h e u = rw (p .so-far, few-at (formsOf v) i s at from h e u)
 
@@ -108,7 +108,7 @@ values-at fs i s at from to x h le some u w e =
 pub wrong-word : {v : Verb} {s a : List ℕ} {at i from to : ℕ} {x : Argument} {r : Reason} → Reading v s a at i → i < length (formsOf v)
     → from ≤ length s → (from ≡ length s → ⊥) → drop from s ≡ unblank (drop at s) → Ended s from to
     → x ≡ argumentOf (getD (formsOf v) i Plain) (take (to - from) (drop from s)) → x ≡ Wrong r
-    → Unread r ≡ commandFrom v (valuesOf (formsOf v) s)
+    → Unread r ≡ readFrom v (valuesOf (formsOf v) s)
 unfolding before
 wrong-word {v} {s} {a} {at} {i} {from} {to} {x} {r} p h le some u w e k =
     rw (p .so-far, values-at (formsOf v) i s at from to x h le some u w e, k)
@@ -136,7 +136,7 @@ unfolding valuesOf
 last-at fs i s h = rw (drop-of-length-le fs h)
 
 pub too-many : {v : Verb} {s a : List ℕ} {at i from : ℕ} → Reading v s a at i → length (formsOf v) ≤ i → from ≤ length s
-    → (from ≡ length s → ⊥) → drop from s ≡ unblank (drop at s) → Unread TooManyWords ≡ commandFrom v (valuesOf (formsOf v) s)
+    → (from ≡ length s → ⊥) → drop from s ≡ unblank (drop at s) → Unread TooManyWords ≡ readFrom v (valuesOf (formsOf v) s)
 unfolding before
 too-many {v} {s} {a} {at} {i} {from} p h le some u =
     let n : length (drop from s) ≡ 0 → ⊥ = λ z. some (omega (arith, length-drop from s)) in
@@ -152,19 +152,19 @@ taken Walk a i h =
     rw (getD-take i a 0 0 (omega arith), getD-take i a 1 0 (omega arith), getD-take i a 2 0 (omega arith), getD-take i a 3 0 (omega arith), getD-take i a 4 0 (omega arith))
 
 pub all-read : {v : Verb} {s a : List ℕ} {at i from : ℕ} → Reading v s a at i → length (formsOf v) ≤ i → from ≡ length s
-    → drop from s ≡ unblank (drop at s) → commandWith v a ≡ commandFrom v (valuesOf (formsOf v) s)
+    → drop from s ≡ unblank (drop at s) → Asked (commandWith v a) ≡ readFrom v (valuesOf (formsOf v) s)
 unfolding before
 all-read {v} {s} {a} {at} {i} {from} p h e u =
-    rw (p .so-far, last-at (formsOf v) i (drop at s) h, eq-eqb _ _ (empty s at from e u), append-nil (take i a)) (taken v a i h)
+    rw (p .so-far, last-at (formsOf v) i (drop at s) h, eq-eqb _ _ (empty s at from e u), append-nil (take i a)) (ap Asked (taken v a i h))
 
 -- a line's first word
-pub no-word : (s : List ℕ) {from : ℕ} → from ≡ length s → drop from s ≡ unblank s → Nothing ≡ commandIn (unblank s)
-unfolding commandIn
+pub no-word : (s : List ℕ) {from : ℕ} → from ≡ length s → drop from s ≡ unblank s → Nothing ≡ readIn (unblank s)
+unfolding readIn
 no-word s {from} e u = rw (eq-eqb _ _ (empty s 0 from e u))
 
 pub first-there : (s : List ℕ) {from to : ℕ} → from ≤ length s → (from ≡ length s → ⊥) → drop from s ≡ unblank s → Ended s from to
-    → afterFirst (firstOf (take (to - from) (drop from s))) (drop to s) ≡ commandIn (unblank s)
-unfolding commandIn
+    → afterFirst (firstOf (take (to - from) (drop from s))) (drop to s) ≡ readIn (unblank s)
+unfolding readIn
 first-there s {from} {to} le some u w =
     let n : length (drop from s) ≡ 0 → ⊥ = λ z. some (omega (arith, length-drop from s)) in
     rw (← u, ne-eqb _ _ n, w .word, w .after)

@@ -4,8 +4,8 @@ use mathlib.Core.Bool.{Bool, true, false, cond}
 use mathlib.Core.List.{List, [], _∷_, _++_}
 use lib.Dec.{leb, eqb}
 use lib.ListN.{length, getD}
-use Rattle.script.specs.declared.number.Numeral.{Numeral}
-use Rattle.script.specs.declared.number.Numeral.the-variants.{Value, TooLarge, NoNumber}
+use Rattle.text.specs.declared.numbers.Numeral.{Numeral}
+use Rattle.text.specs.declared.numbers.Numeral.the-variants.{Value, TooLarge, NoNumber}
 use Rattle.script.specs.declared.command.Verb.{Verb}
 use Rattle.script.specs.declared.command.Verb.the-variants.{Setup, Word, Peek, Stage2, Walk}
 use Rattle.script.specs.declared.command.First.{First}
@@ -16,11 +16,13 @@ use Rattle.script.specs.declared.command.Argument.{Argument}
 use Rattle.script.specs.declared.command.Argument.the-variants.{Given, Wrong}
 use Rattle.script.specs.declared.command.Reason.{Reason}
 use Rattle.script.specs.declared.command.Reason.the-variants.{UnknownCommand, TooFewWords, TooManyWords, NumberExpected, NumberTooLarge, AccessExpected, LevelExpected, NotText, LineTooLong}
-use Rattle.script.specs.declared.command.Command.{Command}
-use Rattle.script.specs.declared.command.Command.the-variants.{Nothing, SetUp, StoreWord, PeekWord, WalkOne, WalkBoth, Unread}
-use Rattle.script.specs.Text.{ascii}
-use Rattle.script.specs.Words.{textOf, textual, unblank, wordOf, afterWord, sameText}
-use Rattle.script.specs.Number.{numberOf}
+use Rattle.script.specs.declared.command.Read.{Read}
+use Rattle.script.specs.declared.command.Read.the-variants.{Nothing, Asked, Unread}
+use Rattle.machine.specs.declared.Command.{Command}
+use Rattle.machine.specs.declared.Command.the-variants.{SetUp, StoreWord, PeekWord, WalkOne, WalkBoth}
+use Rattle.text.specs.Text.{ascii}
+use Rattle.text.specs.Words.{textOf, textual, unblank, wordOf, afterWord, sameText}
+use Rattle.text.specs.Number.{numberOf}
 
 unfoldable pub firstOf : List ℕ → First
 firstOf w =
@@ -73,18 +75,18 @@ valuesOf (f ∷ fs) s =
     cond (eqb (length (unblank s)) 0) (failed TooFewWords)
     (joined (argumentOf f (wordOf (unblank s))) (valuesOf fs (afterWord (unblank s))))
 
-abbrev pub commandFrom : Verb → Values → Command
-commandFrom v (values l) = commandWith v l
-commandFrom v (failed r) = Unread r
+abbrev pub readFrom : Verb → Values → Read
+readFrom v (values l) = Asked (commandWith v l)
+readFrom v (failed r) = Unread r
 
-unfoldable pub afterFirst : First → List ℕ → Command
-afterFirst (Known v) s = commandFrom v (valuesOf (formsOf v) s)
+unfoldable pub afterFirst : First → List ℕ → Read
+afterFirst (Known v) s = readFrom v (valuesOf (formsOf v) s)
 afterFirst Unknown s = Unread UnknownCommand
 
-unfoldable pub commandIn : List ℕ → Command
-commandIn s = cond (eqb (length s) 0) Nothing (afterFirst (firstOf (wordOf s)) (afterWord s))
+unfoldable pub readIn : List ℕ → Read
+readIn s = cond (eqb (length s) 0) Nothing (afterFirst (firstOf (wordOf s)) (afterWord s))
 
-unfoldable pub commandOf : List ℕ → Command
-commandOf line =
+unfoldable pub readOf : List ℕ → Read
+readOf line =
     cond (leb 4096 (length line)) (Unread LineTooLong) (
-    cond (textual (textOf line)) (commandIn (unblank (textOf line))) (Unread NotText))
+    cond (textual (textOf line)) (readIn (unblank (textOf line))) (Unread NotText))

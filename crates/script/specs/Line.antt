@@ -1,7 +1,7 @@
 -- What is printed: SCRIPT's table, and the form of a walk's answer.
-use Prim.Native.Nat.{ℕ, _+_, _≤_}
+use Prim.Native.Nat.{ℕ, _≤_}
 use mathlib.Core.Path.{_≡_}
-use mathlib.Core.List.{List, [], _++_}
+use mathlib.Core.List.{List, _++_}
 use lib.ListN.{length, take}
 use Rattle.walk.specs.declared.Kind.{Kind}
 use Rattle.walk.specs.declared.Kind.the-variants.{WalkAbort, Translation, NotModelled, AccessFlag, Permission}
@@ -9,16 +9,17 @@ use Rattle.walk.specs.declared.Answer.{Answer}
 use Rattle.walk.specs.declared.Answer.the-variants.{Found, Fault, During, Refused}
 use Rattle.script.specs.declared.command.Reason.{Reason}
 use Rattle.script.specs.declared.command.Reason.the-variants.{UnknownCommand, TooFewWords, TooManyWords, NumberExpected, NumberTooLarge, AccessExpected, LevelExpected, NotText, LineTooLong}
-use Rattle.script.specs.declared.answer.Reply.{Reply}
-use Rattle.script.specs.declared.answer.Reply.the-variants.{Silent, Done, OutsideRam, Code, Contents, Walked, Mistake}
-use Rattle.script.specs.Text.{ascii}
-use Rattle.script.specs.Digits.{decimalOf, hexOf, sixteenOf}
+use Rattle.script.specs.declared.print.Text.{Text}
+use Rattle.machine.specs.declared.Reply.{Reply}
+use Rattle.machine.specs.declared.Reply.the-variants.{Done, OutsideRam, Code, Contents, Walked}
+use Rattle.text.specs.Text.{ascii}
+use Rattle.text.specs.Digits.{decimalOf, hexOf, sixteenOf}
 
--- of m, the list l has `text` at `at`: r is the place after it, at most `most` further, and what stood before is there still
-pub record Wrote (most : ℕ) (m : List ℕ) (at : ℕ) (l : List ℕ) (r : ℕ) (text : List ℕ) : Type 0 where
-  pub near : r ≤ at + most
-  pub next : r ≡ at + length text
-  pub there : take r l ≡ take at m ++ text
+-- the first bytes of t are `text`
+pub record Says (t : Text) (text : List ℕ) : Type 0 where
+  pub short : t .length ≤ 20
+  pub there : t .length ≤ length (t .bytes)
+  pub same : take (t .length) (t .bytes) ≡ text
 
 unfoldable pub kindText : Kind → List ℕ
 kindText WalkAbort = ascii "WALK_ABORT"
@@ -52,12 +53,14 @@ reasonText LevelExpected = ascii "level is el0 or el1"
 reasonText NotText = ascii "not text"
 reasonText LineTooLong = ascii "line too long"
 
--- the line that a command prints, with its end; a comment or an empty line prints nothing
-unfoldable pub lineOf : Reply → List ℕ
-lineOf Silent = []
-lineOf Done = ascii "ok\n"
-lineOf OutsideRam = ascii "refused\n"
-lineOf (Code n) = decimalOf n ++ ascii "\n"
-lineOf (Contents v) = sixteenOf v ++ ascii "\n"
-lineOf (Walked a) = answerText a ++ ascii "\n"
-lineOf (Mistake r) = ascii "error: " ++ reasonText r ++ ascii "\n"
+-- the line that a command prints, with its end
+unfoldable pub replyText : Reply → List ℕ
+replyText Done = ascii "ok\n"
+replyText OutsideRam = ascii "refused\n"
+replyText (Code n) = decimalOf n ++ ascii "\n"
+replyText (Contents v) = sixteenOf v ++ ascii "\n"
+replyText (Walked a) = answerText a ++ ascii "\n"
+
+-- the line of one that can't be read
+unfoldable pub mistakeText : Reason → List ℕ
+mistakeText r = ascii "error: " ++ reasonText r ++ ascii "\n"

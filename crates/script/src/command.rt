@@ -1,16 +1,17 @@
-// A line taken apart into a command.
+// A line taken apart into a command of the machine.
 ghost use mathlib.Core.Path.{_≡_};
 ghost use Prim.Native.Nat.{_<_, _≤_};
 ghost use lib.ListN.{length, getD};
-ghost use Rattle.script.specs.Commands.{firstOf, formsOf, commandWith, argumentOf, valuesOf, commandFrom, afterFirst, commandIn, commandOf};
-ghost use Rattle.script.specs.Words.{unblank};
-use crate::number::Numeral;
-use crate::number::number;
-use crate::text::is_text;
-use crate::text::same;
-use crate::text::text_end;
-use crate::text::word_end;
-use crate::text::word_start;
+ghost use Rattle.script.specs.Commands.{firstOf, formsOf, commandWith, argumentOf, valuesOf, readFrom, afterFirst, readIn, readOf};
+ghost use Rattle.text.specs.Words.{unblank};
+use machine::Command;
+use text::numbers::Numeral;
+use text::numbers::number;
+use text::words::is_text;
+use text::words::same;
+use text::words::text_end;
+use text::words::word_end;
+use text::words::word_start;
 
 // Why a line can't be read.
 pub enum Reason {
@@ -25,32 +26,10 @@ pub enum Reason {
     LineTooLong,
 }
 
-pub enum Command {
+// What a line is.
+pub enum Read {
     Nothing,
-    SetUp {
-        frames: u64,
-        base: u64,
-        monitor: u64,
-    },
-    StoreWord {
-        at: u64,
-        value: u64,
-    },
-    PeekWord {
-        at: u64,
-    },
-    WalkOne {
-        root: u64,
-        ipa: u64,
-        access: u64,
-    },
-    WalkBoth {
-        root1: u64,
-        root2: u64,
-        va: u64,
-        access: u64,
-        el: u64,
-    },
+    Asked(Command),
     Unread(Reason),
 }
 
@@ -191,26 +170,26 @@ fn read_argument(f: Form, s: &[u8]) -> Argument
 fn made(v: Verb, a: [u64; 5]) -> Command
     ensures { λ r. ⌜ r ≡ commandWith v a ⌝ }
 {
+    let x = a[0];
+    let y = a[1];
+    let z = a[2];
     match v {
         Verb::Setup => Command::SetUp {
-            frames: a[0],
-            base: a[1],
-            monitor: a[2],
+            frames: x,
+            base: y,
+            monitor: z,
         },
-        Verb::Word => Command::StoreWord {
-            at: a[0],
-            value: a[1],
-        },
-        Verb::Peek => Command::PeekWord { at: a[0] },
+        Verb::Word => Command::StoreWord { at: x, value: y },
+        Verb::Peek => Command::PeekWord { at: x },
         Verb::Stage2 => Command::WalkOne {
-            root: a[0],
-            ipa: a[1],
-            access: a[2],
+            root: x,
+            ipa: y,
+            access: z,
         },
         Verb::Walk => Command::WalkBoth {
-            root1: a[0],
-            root2: a[1],
-            va: a[2],
+            root1: x,
+            root2: y,
+            va: z,
             access: a[3],
             el: a[4],
         },
@@ -218,8 +197,8 @@ fn made(v: Verb, a: [u64; 5]) -> Command
 }
 
 // The words after the first, read as v wants them.
-fn arguments(v: Verb, s: &[u8]) -> Command
-    ensures { λ r. ⌜ r ≡ commandFrom v (valuesOf (formsOf v) (now (s .entry))) ⌝ }
+fn arguments(v: Verb, s: &[u8]) -> Read
+    ensures { λ r. ⌜ r ≡ readFrom v (valuesOf (formsOf v) (now (s .entry))) ⌝ }
 {
     let n = count(v);
     let mut a = [0u64; 5];
@@ -228,51 +207,51 @@ fn arguments(v: Verb, s: &[u8]) -> Command
     while i < n {
         let from = word_start(s, at);
         if from == s.len() {
-            return Command::Unread(Reason::TooFewWords);
+            return Read::Unread(Reason::TooFewWords);
         }
         at = word_end(s, from);
         match read_argument(form_of(v, i), &s[from..at]) {
             Argument::Given(x) => a[i] = x,
-            Argument::Wrong(r) => return Command::Unread(r),
+            Argument::Wrong(r) => return Read::Unread(r),
         }
         i += 1;
     }
     if word_start(s, at) == s.len() {
-        return made(v, a);
+        return Read::Asked(made(v, a));
     }
-    Command::Unread(Reason::TooManyWords)
+    Read::Unread(Reason::TooManyWords)
 }
 
-fn after_first(w: First, s: &[u8]) -> Command
+fn after_first(w: First, s: &[u8]) -> Read
     ensures { λ r. ⌜ r ≡ afterFirst w (now (s .entry)) ⌝ }
 {
     match w {
         First::Known(v) => arguments(v, s),
-        First::Unknown => Command::Unread(Reason::UnknownCommand),
+        First::Unknown => Read::Unread(Reason::UnknownCommand),
     }
 }
 
-fn read_text(s: &[u8]) -> Command
-    ensures { λ r. ⌜ r ≡ commandIn (unblank (now (s .entry))) ⌝ }
+fn read_text(s: &[u8]) -> Read
+    ensures { λ r. ⌜ r ≡ readIn (unblank (now (s .entry))) ⌝ }
 {
     let from = word_start(s, 0);
     if from == s.len() {
-        return Command::Nothing;
+        return Read::Nothing;
     }
     let to = word_end(s, from);
     after_first(first_word(&s[from..to]), &s[to..])
 }
 
-pub fn read_line(line: &[u8]) -> Command
-    ensures { λ r. ⌜ r ≡ commandOf (now (line .entry)) ⌝ }
+pub fn read_line(line: &[u8]) -> Read
+    ensures { λ r. ⌜ r ≡ readOf (now (line .entry)) ⌝ }
 {
     if 4096 <= line.len() {
-        return Command::Unread(Reason::LineTooLong);
+        return Read::Unread(Reason::LineTooLong);
     }
     let end = text_end(line);
     let s = &line[..end];
     if is_text(s) {
         return read_text(s);
     }
-    Command::Unread(Reason::NotText)
+    Read::Unread(Reason::NotText)
 }

@@ -1,17 +1,34 @@
 -- Written by tools/prove from the file answers beside it: edit that, and not this.
--- The line's command, its outcome, and its text.
+-- By what the line is.
+use mathlib.Core.Path.{refl, _∙_, sym}
+use Rattle.script.specs.Answers.{machineAfter, sliceAfter, textAfter}
 use borrow.Author.Needs.{needs}
+use native.Mathlib.Omega.{arith}
 use Rattle.script.proofs.answer_line.Statement.{statement}
 use Rattle.script.proofs.answer_line.Tie as tie
 
 read-line-requires : tie.Need-read-line-requires
 read-line-requires c κs = search needs
 
-execute-requires : tie.Need-execute-requires
-execute-requires c κs = search needs
+enum-told : tie.Need-enum-told
+enum-told c = search needs
 
-print-requires : tie.Need-print-requires
-print-requires c κs = search needs
+enum-known-c : tie.Need-enum-known-c
+enum-known-c c = search needs
+
+answer-command-requires : tie.Need-answer-command-requires
+answer-command-requires c κs = search needs
+
+enum-known-why : tie.Need-enum-known-why
+enum-known-why c = search needs
+
+put-mistake-requires : tie.Need-put-mistake-requires
+put-mistake-requires c κs = search needs
+
+returns : tie.Need-returns
+unfolding machineAfter sliceAfter textAfter
+returns c = rw (sym (c .before .before .read-line .ensures) ∙ c .enum-told .given .1)
+    (record { machine-after = refl; slice-after = refl; text = refl; within = c .before .before .before .before .before .before .pre .0; short = omega arith })
 
 same-length : tie.Need-same-length
 same-length c = search needs
@@ -19,22 +36,36 @@ same-length c = search needs
 same-length-2 : tie.Need-same-length-2
 same-length-2 c = search needs
 
-returns : tie.Need-returns
-returns c = record {
-  machine-after = rw (← c .before .before .before .before .before .before .before .before .before .read-line .ensures, ← c .before .before .before .before .before .before .before .execute .ensures .answered);
-  ram-after = rw (← c .before .before .before .before .before .before .before .before .before .read-line .ensures) (c .before .before .before .before .before .before .before .execute .ensures .left);
-  text = rw (← c .before .before .before .before .before .before .before .before .before .read-line .ensures, ← c .before .before .before .before .before .before .before .execute .ensures .answered) (c .before .before .print .ensures .there);
-  within = c .before .before .before .before .before .before .before .execute .ensures .within;
-  short = c .before .before .print .ensures .near;
-}
+returns-2 : tie.Need-returns-2
+returns-2 c = rw (sym (c .before .before .before .before .before .before .before .before .before .before .read-line .ensures) ∙ c .before .before .before .before .before .before .before .before .c .given .1) (c .before .before .before .before .answer-command .ensures)
+
+same-length-3 : tie.Need-same-length-3
+same-length-3 c = search needs
+
+returns-3 : tie.Need-returns-3
+unfolding machineAfter sliceAfter textAfter
+returns-3 c = rw (sym (c .before .before .before .before .before .before .before .read-line .ensures) ∙ c .before .before .before .before .before .why .given .1)
+    (record {
+      machine-after = refl;
+      slice-after = refl;
+      text = c .before .before .put-mistake .ensures .there;
+      within = c .before .before .before .before .before .before .before .before .before .before .before .pre .0;
+      short = omega (arith, c .before .before .put-mistake .ensures .near);
+    })
 
 pub answer-line-spec : {M : Type 1} → statement M
 answer-line-spec =
     tie.close
     (tie.spec
     read-line-requires
-    execute-requires
-    print-requires
+    enum-told
+    enum-known-c
+    answer-command-requires
+    enum-known-why
+    put-mistake-requires
+    returns
     same-length
     same-length-2
-    returns)
+    returns-2
+    same-length-3
+    returns-3)

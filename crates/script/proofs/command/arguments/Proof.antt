@@ -1,7 +1,8 @@
 -- Written by tools/prove from the file answers beside it: edit that, and not this.
 -- After i arguments those of the definition are the first i of a, and then those of the words from `at` on.
 use Prim.Native.Nat.{_≤_, _-_}
-use mathlib.Core.Path.{_≡_, refl, _∙_}
+use mathlib.Core.Path.{_≡_, refl, ap, _∙_}
+use Rattle.script.specs.declared.command.Read.the-variants.{Asked}
 use Rattle.script.proofs.Parsing.{Reading, reading-none, reading-more, too-few, too-many, wrong-word, all-read}
 use borrow.Author.Needs.{needs}
 use native.Mathlib.Omega.{arith}
@@ -77,7 +78,7 @@ made-requires : tie.Need-made-requires Inv-loop μ-loop
 made-requires c κs = search needs
 
 returns-3 : tie.Need-returns-3 Inv-loop μ-loop
-returns-3 c = c .made .ensures ∙ all-read (c .before .before .before .before .loop .inv) (omega arith) (c .before .if2 .taken) (c .before .before .word-start2 .ensures .1)
+returns-3 c = ap Asked (c .made .ensures) ∙ all-read (c .before .before .before .before .loop .inv) (omega arith) (c .before .if2 .taken) (c .before .before .word-start2 .ensures .1)
 
 returns-4 : tie.Need-returns-4 Inv-loop μ-loop
 returns-4 c = too-many (c .before .before .before .loop .inv) (omega arith) (c .before .word-start2 .ensures .0) (c .if2 .left) (c .before .word-start2 .ensures .1)

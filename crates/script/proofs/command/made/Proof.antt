@@ -5,62 +5,35 @@ use borrow.Author.Needs.{needs}
 use Rattle.script.proofs.command.made.Statement.{statement}
 use Rattle.script.proofs.command.made.Tie as tie
 
+array-read-x : tie.Need-array-read-x
+array-read-x c = search needs
+
+array-read-y : tie.Need-array-read-y
+array-read-y c = search needs
+
+array-read-z : tie.Need-array-read-z
+array-read-z c = search needs
+
 enum-told : tie.Need-enum-told
 enum-told c = search needs
-
-array-read-t7 : tie.Need-array-read-t7
-array-read-t7 c = search needs
-
-array-read-t10 : tie.Need-array-read-t10
-array-read-t10 c = search needs
-
-array-read-t13 : tie.Need-array-read-t13
-array-read-t13 c = search needs
 
 enum-told-2 : tie.Need-enum-told-2
 enum-told-2 c = search needs
 
-array-read-t16 : tie.Need-array-read-t16
-array-read-t16 c = search needs
-
-array-read-t19 : tie.Need-array-read-t19
-array-read-t19 c = search needs
-
 enum-told-3 : tie.Need-enum-told-3
 enum-told-3 c = search needs
-
-array-read-t22 : tie.Need-array-read-t22
-array-read-t22 c = search needs
 
 enum-told-4 : tie.Need-enum-told-4
 enum-told-4 c = search needs
 
-array-read-t25 : tie.Need-array-read-t25
-array-read-t25 c = search needs
-
-array-read-t28 : tie.Need-array-read-t28
-array-read-t28 c = search needs
-
-array-read-t31 : tie.Need-array-read-t31
-array-read-t31 c = search needs
-
 enum-told-5 : tie.Need-enum-told-5
 enum-told-5 c = search needs
 
-array-read-t34 : tie.Need-array-read-t34
-array-read-t34 c = search needs
+array-read-t17 : tie.Need-array-read-t17
+array-read-t17 c = search needs
 
-array-read-t37 : tie.Need-array-read-t37
-array-read-t37 c = search needs
-
-array-read-t40 : tie.Need-array-read-t40
-array-read-t40 c = search needs
-
-array-read-t43 : tie.Need-array-read-t43
-array-read-t43 c = search needs
-
-array-read-t46 : tie.Need-array-read-t46
-array-read-t46 c = search needs
+array-read-t20 : tie.Need-array-read-t20
+array-read-t20 c = search needs
 
 returns : tie.Need-returns
 unfolding commandWith
@@ -86,25 +59,16 @@ pub made-spec : {M : Type 1} → statement M
 made-spec =
     tie.close
     (tie.spec
+    array-read-x
+    array-read-y
+    array-read-z
     enum-told
-    array-read-t7
-    array-read-t10
-    array-read-t13
     enum-told-2
-    array-read-t16
-    array-read-t19
     enum-told-3
-    array-read-t22
     enum-told-4
-    array-read-t25
-    array-read-t28
-    array-read-t31
     enum-told-5
-    array-read-t34
-    array-read-t37
-    array-read-t40
-    array-read-t43
-    array-read-t46
+    array-read-t17
+    array-read-t20
     returns
     returns-2
     returns-3

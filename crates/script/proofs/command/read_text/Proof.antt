@@ -1,7 +1,7 @@
 -- Written by tools/prove from the file answers beside it: edit that, and not this.
 -- The first word is where the text's blanks end.
 use mathlib.Core.Path.{_∙_}
-use Rattle.script.proofs.Scanning.{rest}
+use Rattle.text.proofs.Scanning.{rest}
 use Rattle.script.proofs.Parsing.{no-word, first-there}
 use borrow.Author.Needs.{needs}
 use Rattle.script.proofs.command.read_text.Statement.{statement}

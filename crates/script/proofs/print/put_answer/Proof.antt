@@ -1,7 +1,7 @@
 -- Written by tools/prove from the file answers beside it: edit that, and not this.
 -- Part after part.
 use Rattle.script.specs.Line.{fetchedText, answerText}
-use Rattle.script.proofs.Printing.{wrote-then, wrote-within}
+use Rattle.text.proofs.Printing.{wrote-then, wrote-within}
 use borrow.Author.Needs.{needs}
 use native.Mathlib.Omega.{arith}
 use Rattle.script.proofs.print.put_answer.Statement.{statement}

@@ -1,13 +1,18 @@
 -- Written by tools/prove from the file answers beside it: edit that, and not this.
 -- The kind, the stage and the level.
+use mathlib.Core.Path.{_∙_}
 use Rattle.script.specs.Line.{faultText}
-use Rattle.script.proofs.Printing.{wrote-then}
+use Rattle.text.proofs.Printing.{wrote-then, wrote-within}
 use borrow.Author.Needs.{needs}
+use native.Mathlib.Omega.{arith}
 use Rattle.script.proofs.print.put_fault.Statement.{statement}
 use Rattle.script.proofs.print.put_fault.Tie as tie
 
-put-kind-requires : tie.Need-put-kind-requires
-put-kind-requires c κs = search needs
+kind-text-requires : tie.Need-kind-text-requires
+kind-text-requires c κs = search needs
+
+put-text-requires : tie.Need-put-text-requires
+put-text-requires c κs = search needs
 
 slice-aggregate-put-field : tie.Need-slice-aggregate-put-field
 slice-aggregate-put-field c = search needs
@@ -26,13 +31,14 @@ same-length c = search needs
 
 returns : tie.Need-returns
 unfolding faultText
-returns c = wrote-then (wrote-then (c .before .before .before .before .before .before .before .before .before .before .before .before .put-kind .ensures) (c .before .before .before .before .before .before .before .put-field .ensures)) (c .before .before .put-field2 .ensures)
+returns c = wrote-then (wrote-then (wrote-within {b = 20} (c .before .before .before .before .before .before .before .before .before .before .before .before .put-text .ensures) (omega arith) (c .before .before .before .before .before .before .before .before .before .before .before .before .before .kind-text .ensures .same)) (c .before .before .before .before .before .before .before .put-field .ensures)) (c .before .before .put-field2 .ensures)
 
 pub put-fault-spec : {M : Type 1} → statement M
 put-fault-spec =
     tie.close
     (tie.spec
-    put-kind-requires
+    kind-text-requires
+    put-text-requires
     slice-aggregate-put-field
     put-field-requires
     slice-aggregate-put-field-2

@@ -1,0 +1,130 @@
+-- Written by tools/prove from the file answers beside it: edit that, and not this.
+-- Part after part, and the line's end.
+use Rattle.script.specs.Line.{replyText}
+use Rattle.text.proofs.Printing.{wrote-then, wrote-within}
+use borrow.Author.Needs.{needs}
+use native.Mathlib.Omega.{arith}
+use Rattle.script.proofs.print.put_reply.Statement.{statement}
+use Rattle.script.proofs.print.put_reply.Tie as tie
+
+enum-told : tie.Need-enum-told
+enum-told c = search needs
+
+slice-aggregate-put : tie.Need-slice-aggregate-put
+slice-aggregate-put c = search needs
+
+put-requires : tie.Need-put-requires
+put-requires c κs = search needs
+
+enum-told-2 : tie.Need-enum-told-2
+enum-told-2 c = search needs
+
+slice-aggregate-put-2 : tie.Need-slice-aggregate-put-2
+slice-aggregate-put-2 c = search needs
+
+put-requires-2 : tie.Need-put-requires-2
+put-requires-2 c κs = search needs
+
+enum-known-reply : tie.Need-enum-known-reply
+enum-known-reply c = search needs
+
+put-decimal-requires : tie.Need-put-decimal-requires
+put-decimal-requires c κs = search needs
+
+slice-aggregate-put-3 : tie.Need-slice-aggregate-put-3
+slice-aggregate-put-3 c = search needs
+
+put-requires-3 : tie.Need-put-requires-3
+put-requires-3 c κs = search needs
+
+enum-known-reply-2 : tie.Need-enum-known-reply-2
+enum-known-reply-2 c = search needs
+
+put-word-requires : tie.Need-put-word-requires
+put-word-requires c κs = search needs
+
+slice-aggregate-put-4 : tie.Need-slice-aggregate-put-4
+slice-aggregate-put-4 c = search needs
+
+put-requires-4 : tie.Need-put-requires-4
+put-requires-4 c κs = search needs
+
+enum-known-reply-3 : tie.Need-enum-known-reply-3
+enum-known-reply-3 c = search needs
+
+put-answer-requires : tie.Need-put-answer-requires
+put-answer-requires c κs = search needs
+
+slice-aggregate-put-5 : tie.Need-slice-aggregate-put-5
+slice-aggregate-put-5 c = search needs
+
+put-requires-5 : tie.Need-put-requires-5
+put-requires-5 c κs = search needs
+
+same-length : tie.Need-same-length
+same-length c = search needs
+
+returns : tie.Need-returns
+unfolding replyText
+returns c = wrote-within (c .before .before .put .ensures) (omega arith) (rw (c .before .before .before .before .before .enum-told .given .1))
+
+same-length-2 : tie.Need-same-length-2
+same-length-2 c = search needs
+
+returns-2 : tie.Need-returns-2
+unfolding replyText
+returns-2 c = wrote-within (c .before .before .put2 .ensures) (omega arith) (rw (c .before .before .before .before .before .enum-told2 .given .1))
+
+same-length-3 : tie.Need-same-length-3
+same-length-3 c = search needs
+
+returns-3 : tie.Need-returns-3
+unfolding replyText
+returns-3 c = wrote-within (wrote-then (c .before .before .before .before .before .before .before .put-decimal .ensures) (c .before .before .put3 .ensures)) (omega arith) (rw (c .before .before .before .before .before .before .before .before .before .before .reply .given .1))
+
+same-length-4 : tie.Need-same-length-4
+same-length-4 c = search needs
+
+returns-4 : tie.Need-returns-4
+unfolding replyText
+returns-4 c = wrote-within (wrote-then (c .before .before .before .before .before .before .before .put-word .ensures) (c .before .before .put4 .ensures)) (omega arith) (rw (c .before .before .before .before .before .before .before .before .before .before .reply2 .given .1))
+
+same-length-5 : tie.Need-same-length-5
+same-length-5 c = search needs
+
+returns-5 : tie.Need-returns-5
+unfolding replyText
+returns-5 c = wrote-within (wrote-then (c .before .before .before .before .before .before .before .put-answer .ensures) (c .before .before .put5 .ensures)) (omega arith) (rw (c .before .before .before .before .before .before .before .before .before .before .reply3 .given .1))
+
+pub put-reply-spec : {M : Type 1} → statement M
+put-reply-spec =
+    tie.close
+    (tie.spec
+    enum-told
+    slice-aggregate-put
+    put-requires
+    enum-told-2
+    slice-aggregate-put-2
+    put-requires-2
+    enum-known-reply
+    put-decimal-requires
+    slice-aggregate-put-3
+    put-requires-3
+    enum-known-reply-2
+    put-word-requires
+    slice-aggregate-put-4
+    put-requires-4
+    enum-known-reply-3
+    put-answer-requires
+    slice-aggregate-put-5
+    put-requires-5
+    same-length
+    returns
+    same-length-2
+    returns-2
+    same-length-3
+    returns-3
+    same-length-4
+    returns-4
+    same-length-5
+    returns-5)

@@ -1,0 +1,3 @@
+mod Reading
+pub mod Scanning
+pub mod Printing
