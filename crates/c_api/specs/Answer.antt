@@ -5,8 +5,8 @@ use mathlib.Core.Bool.{cond}
 use mathlib.Core.List.{List, [], _∷_, _++_}
 use lib.ListN.{length, drop}
 use lib.Dec.{ltb}
-use Rattle.walk.specs.declared.Kind.{Kind}
-use Rattle.walk.specs.declared.Kind.the-variants.{WalkAbort, Translation, NotModelled, AccessFlag, Permission}
+use Rattle.descriptor.specs.declared.Kind.{Kind}
+use Rattle.descriptor.specs.declared.Kind.the-variants.{WalkAbort, Translation, NotModelled, AccessFlag, Permission}
 use Rattle.walk.specs.declared.Answer.{Answer}
 use Rattle.walk.specs.declared.Answer.the-variants.{Found, Fault, During, Refused}
 
