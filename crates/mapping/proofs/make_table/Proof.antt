@@ -1,0 +1,79 @@
+-- Written by tools/prove from the file answers beside it: edit that, and not this.
+-- A free frame is cleared, becomes a table, and is linked in.
+use Rattle.ledger.specs.Laws.{guest-low}
+use Rattle.ledger.specs.Sound.{within}
+use Rattle.mapping.specs.Map.{grow-guest, grow-words, grow-room, grow-range, make-end}
+use borrow.Author.Needs.{needs}
+use native.Mathlib.Omega.{arith}
+use Rattle.mapping.proofs.make_table.Statement.{statement}
+use Rattle.mapping.proofs.make_table.Tie as tie
+
+upper-requires : tie.Need-upper-requires
+upper-requires c κs = c .before .before .pre .0 .high
+
+first-requires : tie.Need-first-requires
+first-requires c κs = c .before .before .before .before .pre .0 .sound .stock
+
+next-requires : tie.Need-next-requires
+next-requires c κs = let k = c .before .before .before .before .before .before .pre .0 .enough in (c .before .before .before .before .before .before .pre .0 .sound .stock, omega (arith, c .before .before .before .before .before .before .pre .1))
+
+clear-frame-requires : tie.Need-clear-frame-requires
+clear-frame-requires c κs = let few = c .before .before .before .before .before .before .before .before .pre .0 .sound .stock .few in
+    (omega (arith, c .before .next .ensures .1), within (c .before .before .before .before .before .before .before .before .args .ram .now) (c .before .before .before .before .before .before .before .before .args .ledger .now) (c .before .before .before .before .before .before .before .before .pre .0 .sound) (c .before .next .result) (c .before .next .ensures .1))
+
+sub-become-table : tie.Need-sub-become-table
+sub-become-table c = omega (arith, c .before .before .before .before .before .before .before .before .before .before .before .before .pre .1)
+
+become-table-requires : tie.Need-become-table-requires
+become-table-requires c κs = let k = c .before .before .before .before .before .before .before .before .before .before .before .before .pre .0 .high in (
+  c .before .before .before .before .before .before .before .before .before .before .before .before .pre .0 .sound .stock,
+  (
+    c .before .before .before .before .before .next .ensures .1,
+    (
+      c .before .before .before .before .before .next .ensures .2,
+      (guest-low (c .before .before .before .before .before .before .before .before .before .before .before .before .args .g) (grow-guest (c .before .before .before .before .before .before .before .before .before .before .before .before .args .ram .now) (c .before .before .before .before .before .before .before .before .before .before .before .before .args .ledger .now) (c .before .before .before .before .before .before .before .before .before .before .before .before .args .g) (c .before .before .before .before .before .before .before .before .before .before .before .before .args .v) (c .before .before .before .before .before .before .before .before .before .before .before .before .args .h) (c .before .before .before .before .before .before .before .before .before .before .before .before .args .t) (c .before .before .before .before .before .before .before .before .before .before .before .before .pre .0)) .1, omega arith, grow-range (c .before .before .before .before .before .before .before .before .before .before .before .before .args .ram .now) (c .before .before .before .before .before .before .before .before .before .before .before .before .args .ledger .now) (c .before .before .before .before .before .before .before .before .before .before .before .before .args .g) (c .before .before .before .before .before .before .before .before .before .before .before .before .args .v) (c .before .before .before .before .before .before .before .before .before .before .before .before .args .h) (c .before .before .before .before .before .before .before .before .before .before .before .before .args .t) (c .before .before .before .before .before .before .before .before .before .before .before .before .pre .0) (c .before .before .before .before .before .before .before .before .before .before .before .before .pre .1) (c .before .before .before .before .before .before .before .before .before .upper .result) (c .before .before .before .before .before .before .before .before .before .upper .ensures)),
+    ),
+  ),
+)
+
+add-store-entry : tie.Need-add-store-entry
+add-store-entry c = omega (arith, (grow-room (c .before .before .before .before .before .before .before .before .before .before .before .before .before .before .before .before .args .ram .now) (c .before .before .before .before .before .before .before .before .before .before .before .before .before .before .before .before .args .ledger .now) (c .before .before .before .before .before .before .before .before .before .before .before .before .before .before .before .before .args .g) (c .before .before .before .before .before .before .before .before .before .before .before .before .before .before .before .before .args .v) (c .before .before .before .before .before .before .before .before .before .before .before .before .before .before .before .before .args .h) (c .before .before .before .before .before .before .before .before .before .before .before .before .before .before .before .before .args .t) (c .before .before .before .before .before .before .before .before .before .before .before .before .before .before .before .before .pre .0) (c .before .before .before .before .before .before .before .before .before .before .before .first .result) (c .before .before .before .before .before .before .before .before .before .next .result) (c .before .before .before .before .before .before .before .before .before .before .before .first .ensures) (c .before .before .before .before .before .before .before .before .before .next .ensures .1)))
+
+mul-store-entry : tie.Need-mul-store-entry
+mul-store-entry c = omega (arith, (grow-room (c .before .before .before .before .before .before .before .before .before .before .before .before .before .before .before .before .args .ram .now) (c .before .before .before .before .before .before .before .before .before .before .before .before .before .before .before .before .args .ledger .now) (c .before .before .before .before .before .before .before .before .before .before .before .before .before .before .before .before .args .g) (c .before .before .before .before .before .before .before .before .before .before .before .before .before .before .before .before .args .v) (c .before .before .before .before .before .before .before .before .before .before .before .before .before .before .before .before .args .h) (c .before .before .before .before .before .before .before .before .before .before .before .before .before .before .before .before .args .t) (c .before .before .before .before .before .before .before .before .before .before .before .before .before .before .before .before .pre .0) (c .before .before .before .before .before .before .before .before .before .before .before .first .result) (c .before .before .before .before .before .before .before .before .before .next .result) (c .before .before .before .before .before .before .before .before .before .before .before .first .ensures) (c .before .before .before .before .before .before .before .before .before .next .ensures .1)))
+
+add-store-entry-2 : tie.Need-add-store-entry-2
+add-store-entry-2 c = omega (arith, (grow-room (c .before .before .before .before .before .before .before .before .before .before .before .before .before .before .before .before .args .ram .now) (c .before .before .before .before .before .before .before .before .before .before .before .before .before .before .before .before .args .ledger .now) (c .before .before .before .before .before .before .before .before .before .before .before .before .before .before .before .before .args .g) (c .before .before .before .before .before .before .before .before .before .before .before .before .before .before .before .before .args .v) (c .before .before .before .before .before .before .before .before .before .before .before .before .before .before .before .before .args .h) (c .before .before .before .before .before .before .before .before .before .before .before .before .before .before .before .before .args .t) (c .before .before .before .before .before .before .before .before .before .before .before .before .before .before .before .before .pre .0) (c .before .before .before .before .before .before .before .before .before .before .before .first .result) (c .before .before .before .before .before .before .before .before .before .next .result) (c .before .before .before .before .before .before .before .before .before .before .before .first .ensures) (c .before .before .before .before .before .before .before .before .before .next .ensures .1)))
+
+store-entry-requires : tie.Need-store-entry-requires
+store-entry-requires c κs = let k = grow-words (c .before .before .before .before .before .before .before .before .before .before .before .before .before .before .before .before .args .ram .now) (c .before .before .before .before .before .before .before .before .before .before .before .before .before .before .before .before .args .ledger .now) (c .before .before .before .before .before .before .before .before .before .before .before .before .before .before .before .before .args .g) (c .before .before .before .before .before .before .before .before .before .before .before .before .before .before .before .before .args .v) (c .before .before .before .before .before .before .before .before .before .before .before .before .before .before .before .before .args .h) (c .before .before .before .before .before .before .before .before .before .before .before .before .before .before .before .before .args .t) (c .before .before .before .before .before .before .before .before .before .before .before .before .before .before .before .before .pre .0) in
+    let k1 = k .1 in
+    (omega arith, k .0, omega (arith, c .before .before .before .before .before .before .before .clear-frame .kept))
+
+same-length : tie.Need-same-length
+same-length c = search needs
+
+same-length-2 : tie.Need-same-length-2
+same-length-2 c = search needs
+
+returns : tie.Need-returns
+returns c = make-end (c .before .before .before .before .before .before .before .before .before .before .before .before .before .before .before .before .before .before .before .args .ram .now) (c .before .before .before .before .before .before .before .before .before .before .before .before .before .before .before .before .before .before .before .args .ledger .now) (c .before .before .before .before .before .before .before .before .before .before .before .before .before .before .before .before .before .before .before .args .g) (c .before .before .before .before .before .before .before .before .before .before .before .before .before .before .before .before .before .before .before .args .v) (c .before .before .before .before .before .before .before .before .before .before .before .before .before .before .before .before .before .before .before .args .h) (c .before .before .before .before .before .before .before .before .before .before .before .before .before .before .before .before .before .before .before .args .t) (c .before .before .before .before .before .before .before .before .before .before .before .before .before .before .before .before .before .before .before .pre .0) (c .before .before .before .before .before .before .before .before .before .before .before .before .before .before .before .before .before .before .before .pre .1) (c .before .before .before .before .before .before .before .before .before .before .before .before .before .before .before .before .upper .result) (c .before .before .before .before .before .before .before .before .before .before .before .before .next .result) (c .before .before .before .before .before .before .before .before .before .before .before .before .before .before .first .result) (c .before .before .before .before .before .before .before .before .before .before .before .before .before .before .before .before .upper .ensures) (c .before .before .before .before .before .before .before .before .before .before .before .before .before .before .first .ensures) (c .before .before .before .before .before .before .before .before .before .before .before .before .next .ensures .0) (c .before .before .before .before .before .before .before .before .before .before .before .before .next .ensures .1) (c .before .before .before .before .before .before .before .before .before .before .before .before .next .ensures .2) _ _ _
+    (c .before .before .before .before .before .before .before .before .before .before .clear-frame .ensures) (c .before .before .before .before .before .before .become-table .ensures) (c .before .before .store-entry .ensures) (omega (arith, c .before .before .before .before .before .before .before .before .before .before .clear-frame .kept, c .before .before .store-entry .kept))
+
+pub make-table-spec : {M : Type 1} → statement M
+make-table-spec =
+    tie.close
+    (tie.spec
+    upper-requires
+    first-requires
+    next-requires
+    clear-frame-requires
+    sub-become-table
+    become-table-requires
+    add-store-entry
+    mul-store-entry
+    add-store-entry-2
+    store-entry-requires
+    same-length
+    same-length-2
+    returns)

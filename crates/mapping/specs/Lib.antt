@@ -1,0 +1,4 @@
+pub mod Way
+pub mod Unmap
+pub mod Map
+pub mod Found
