@@ -1,4 +1,4 @@
-/* bench FRAMES WALKS: the library and the plain C on the same image and addresses, in turns, in one process.
+/* walks FRAMES WALKS: the library and the plain C on the same image and addresses, in turns, in one process.
  * Prints a line for each walk: its name, then the nanoseconds of a walk in five runs of C and in five runs of the library.
  * A run has many short turns of each side, one after the other, and counts the fastest: others use the machine too. */
 #include <stdint.h>
