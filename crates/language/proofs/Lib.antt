@@ -1,0 +1,2 @@
+mod Shapes
+mod Parsing

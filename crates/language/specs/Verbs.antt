@@ -1,0 +1,102 @@
+-- SCRIPT's table: each command's word, its arguments, and the command that they make.
+use Prim.Native.Nat.{ℕ}
+use mathlib.Core.Bool.{cond}
+use mathlib.Core.List.{List, [], _∷_, _++_}
+use lib.ListN.{getD, take, replicate}
+use Rattle.language.specs.declared.verbs.Verb.{Verb}
+use Rattle.language.specs.declared.verbs.Verb.the-variants.{Setup, Word, Peek, Stage2, Walk, Translation, OneFrame, OneGuest, WholeLedger, Monitor}
+use Rattle.language.specs.declared.verbs.Deed.{Deed}
+use Rattle.language.specs.declared.verbs.Deed.the-variants.{Creating, Giving, Mapping, Unmapping, Sharing, Unsharing, Taking, Destroying, Invalidating}
+use Rattle.language.specs.declared.verbs.First.{First}
+use Rattle.language.specs.declared.verbs.First.the-variants.{Known, Unknown}
+use Rattle.language.specs.declared.verbs.Shape.{Shape}
+use Rattle.language.specs.declared.arguments.Form.{Form}
+use Rattle.language.specs.declared.arguments.Form.the-variants.{Plain, Access, Level}
+use Rattle.language.specs.declared.Operation.{Operation}
+use Rattle.language.specs.declared.Operation.the-variants.{Create, Give, Map, Unmap, Share, Unshare, Take, Destroy, Invalidated}
+use Rattle.language.specs.declared.Command.{Command}
+use Rattle.language.specs.declared.Command.the-variants.{SetUp, StoreWord, PeekWord, WalkOne, WalkBoth, Operate, Translate, Frame, Guest, Ledger}
+use Rattle.text.specs.Text.{ascii}
+use Rattle.text.specs.Words.{sameText}
+
+unfoldable pub deedOf : List ℕ → First
+deedOf w =
+    cond (sameText w (ascii "create")) (Known (Monitor Creating)) (
+    cond (sameText w (ascii "give")) (Known (Monitor Giving)) (
+    cond (sameText w (ascii "map")) (Known (Monitor Mapping)) (
+    cond (sameText w (ascii "unmap")) (Known (Monitor Unmapping)) (
+    cond (sameText w (ascii "share")) (Known (Monitor Sharing)) (
+    cond (sameText w (ascii "unshare")) (Known (Monitor Unsharing)) (
+    cond (sameText w (ascii "take")) (Known (Monitor Taking)) (
+    cond (sameText w (ascii "destroy")) (Known (Monitor Destroying)) (
+    cond (sameText w (ascii "invalidated")) (Known (Monitor Invalidating)) Unknown))))))))
+
+unfoldable pub firstOf : List ℕ → First
+firstOf w =
+    cond (sameText w (ascii "setup")) (Known Setup) (
+    cond (sameText w (ascii "word")) (Known Word) (
+    cond (sameText w (ascii "peek")) (Known Peek) (
+    cond (sameText w (ascii "stage2")) (Known Stage2) (
+    cond (sameText w (ascii "walk")) (Known Walk) (
+    cond (sameText w (ascii "translate")) (Known Translation) (
+    cond (sameText w (ascii "frame")) (Known OneFrame) (
+    cond (sameText w (ascii "guest")) (Known OneGuest) (
+    cond (sameText w (ascii "ledger")) (Known WholeLedger) (deedOf w)))))))))
+
+-- what follows: n numbers; then, of an access and an exception level, the first k
+abbrev pub shape : ℕ → ℕ → Shape
+shape n k = record { numbers = n; others = k }
+
+unfoldable pub formsOf : Shape → List Form
+formsOf a = replicate (a .numbers) Plain ++ take (a .others) (Access ∷ Level ∷ [])
+
+unfoldable pub deedShape : Deed → Shape
+deedShape Creating = shape 1 0
+deedShape Giving = shape 2 0
+deedShape Mapping = shape 4 0
+deedShape Unmapping = shape 2 0
+deedShape Sharing = shape 4 0
+deedShape Unsharing = shape 3 0
+deedShape Taking = shape 2 0
+deedShape Destroying = shape 1 0
+deedShape Invalidating = shape 1 0
+
+unfoldable pub shapeOf : Verb → Shape
+shapeOf Setup = shape 3 0
+shapeOf Word = shape 2 0
+shapeOf Peek = shape 1 0
+shapeOf Stage2 = shape 2 1
+shapeOf Walk = shape 3 2
+shapeOf Translation = shape 2 1
+shapeOf OneFrame = shape 1 0
+shapeOf OneGuest = shape 1 0
+shapeOf WholeLedger = shape 0 0
+shapeOf (Monitor d) = deedShape d
+
+-- the argument at each place
+abbrev pub nth : List ℕ → ℕ → ℕ
+nth a i = getD a i 0
+
+-- `create G`, `give F G`, `map F G A R`, `unmap A G`, `share G F H W`, `unshare G F H`, `take F G`, `destroy G`, `invalidated G`
+unfoldable pub operationWith : Deed → (ℕ → ℕ) → Operation
+operationWith Creating a = Create (a 0)
+operationWith Giving a = Give (a 0) (a 1)
+operationWith Mapping a = Map (a 0) (a 1) (a 2) (a 3)
+operationWith Unmapping a = Unmap (a 0) (a 1)
+operationWith Sharing a = Share (a 0) (a 1) (a 2) (a 3)
+operationWith Unsharing a = Unshare (a 0) (a 1) (a 2)
+operationWith Taking a = Take (a 0) (a 1)
+operationWith Destroying a = Destroy (a 0)
+operationWith Invalidating a = Invalidated (a 0)
+
+unfoldable pub commandWith : Verb → (ℕ → ℕ) → Command
+commandWith Setup a = SetUp (a 0) (a 1) (a 2)
+commandWith Word a = StoreWord (a 0) (a 1)
+commandWith Peek a = PeekWord (a 0)
+commandWith Stage2 a = WalkOne (a 0) (a 1) (a 2)
+commandWith Walk a = WalkBoth (a 0) (a 1) (a 2) (a 3) (a 4)
+commandWith Translation a = Translate (a 0) (a 1) (a 2)
+commandWith OneFrame a = Frame (a 0)
+commandWith OneGuest a = Guest (a 0)
+commandWith WholeLedger a = Ledger
+commandWith (Monitor d) a = Operate (operationWith d a)
