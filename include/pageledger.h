@@ -27,7 +27,7 @@
 extern "C" {
 #endif
 
-/* What a function that writes an answer returns. */
+/* What a function returns. An operation that is refused returns one of enum pageledger_refusal instead. */
 enum pageledger_status {
     PAGELEDGER_DONE = 0,
     /* The array for the answer has fewer elements than the answer has numbers. Nothing was written. */
@@ -105,29 +105,28 @@ uint64_t pageledger_both_stages(const uint8_t *ram, size_t ram_length, uint64_t 
  * two arrays, RAM and the ledger; each function below takes both, and there is no other state.
  *
  * What the operations and questions count on, and a caller sees to:
- *   - the two arrays are those that pageledger_set_up answered with 0, and since then nobody has written the ledger, or a frame
- *     that is a table or that drains, but these functions. Guests (and the host for them) may write frames that are their
- *     pages; frames of the monitor and free ones may hold anything. So the ledger lies outside RAM, and so does whatever else
- *     the host would not have a guest see or write;
- *   - one call at a time, on any number of cores.
+ *   - the two arrays are those for which pageledger_set_up answered 0, and since then nobody but these functions has written the
+ *     ledger, or a frame that is a table or drains. A guest may write what it reaches, and the host the guests' pages; frames of
+ *     the monitor and free ones may hold anything. The ledger lies outside RAM, and so does whatever else is the host's alone
+ *     and does not stand in the monitor's frames;
+ *   - one call at a time, whichever core makes it. (Guests that run meanwhile are not in the way: no operation reads a page, and
+ *     one is written only to clear it before it is anybody's. The proof takes a guest's store as made before or after a call.)
  *
- * What is proved of every operation: it answers 0 and has done what is said here and no more, or it answers the number of the
- * first refusal that applies, in the order in which they are listed, and has changed nothing, not a byte of RAM and not the
- * ledger. For any sequence of calls with any numbers, translation caches taken into account: no page is reached by two guests
- * unless its owner shared it, none is written or executed beyond what was shared, no guest reaches a table, and a frame changes
- * hands only when no cache can lead to it, and all zero.
+ * What is proved. An operation answers 0 and has done what is said here and no more: every other address of every guest
+ * translates as before. Or it answers the number of the first refusal that applies, in the order in which they are listed, and has
+ * changed nothing, not a byte of RAM and not the ledger. For any sequence of operations with any numbers, translation caches
+ * taken into account: no page is reached by two guests unless its owner shared it, none is written beyond what was shared, no
+ * guest reaches a table, and a frame changes hands only when no cache can lead to it, and all zero.
  *
- * For this to be true of the machine, a caller also sees to this:
- *   - RAM is mapped for the library as normal memory, write-back cacheable, inner shareable, as the processor's table walks are
- *     (VTCR_EL2);
- *   - a processor that runs guest g has g's root table in VTTBR_EL2, with a VMID for each guest number, and no guest runs that
- *     does not exist;
- *   - after an operation that answered 0 and before a guest runs on: a barrier (DSB ISH, ISB), so that the walks see the stores.
- *     map fills a new table with zeros before it links it, by stores in program order; where another core runs that guest during
- *     the call, the walks there may see them in another order: stop the guest, or clear free frames and DSB beforehand;
- *   - pageledger_invalidated(g) is called only after the invalidation of all of g's translations has completed on every core:
- *     DSB ISHST, TLBI VMALLS12E1IS with g's VMID, DSB ISH, ISB. It is a report, and does none of this itself;
- *   - what a device may access by itself, without these tables, is no part of the RAM that is lent. */
+ * For this to be true of the machine, a caller sees to what no function here can:
+ *   - RAM and the ledger are mapped for the library as normal memory, without alignment checks (SCTLR_EL2.A = 0); RAM with the
+ *     attributes that the processor's table walks use (VTCR_EL2), cacheable and shareable, so that walks see the stores;
+ *   - a guest that exists runs with its root table in VTTBR_EL2 and a VMID of its number's own; a guest that does not, does not;
+ *   - an operation's stores reach the walks in program order, a new table's zeros before its link: no core runs the guest while
+ *     pageledger_map works on it, and a barrier (DSB ISH, then ISB) follows an operation before the guest runs on;
+ *   - pageledger_invalidated is called only after the invalidation of all of the guest's translations has completed on every
+ *     core: DSB ISHST, TLBI VMALLS12E1IS under its VMID, DSB ISH, ISB. It is a report, and does none of this itself;
+ *   - devices reach none of the RAM that is lent: these tables are not theirs. */
 
 /* The lengths that set-up wants for n frames: RAM in bytes, the ledger in elements of 32 bits (64 bytes a frame, and 576). */
 #define PAGELEDGER_RAM_BYTES(n) ((size_t)(n) * 4096)
@@ -136,7 +135,7 @@ uint64_t pageledger_both_stages(const uint8_t *ram, size_t ram_length, uint64_t 
 /* Guests have the numbers 1 to PAGELEDGER_GUESTS. */
 #define PAGELEDGER_GUESTS 4
 
-/* What an operation answers where it is refused; 0 is done. */
+/* What an operation answers where it is refused. */
 enum pageledger_refusal {
     PAGELEDGER_NO_GUEST_NUMBER = 1,    /* a guest's number is not 1 to 4 */
     PAGELEDGER_GUEST_EXISTS = 2,       /* the guest exists already, or is dirty */
@@ -204,7 +203,8 @@ uint64_t pageledger_unshare(const uint8_t *ram, size_t ram_length, uint32_t *led
                             uint64_t owner, uint64_t frame, uint64_t with);
 
 /* The owner loses its page, which must be mapped nowhere and shared with nobody. It is free; or it drains, where the owner is
- * dirty, until that guest is reported invalidated. Its contents stay until it is given again, and nobody reaches them.
+ * dirty, until that guest is reported invalidated: till then the owner's caches may lead to it. Its bytes stay, and are cleared
+ * when it is given again.
  * Refusals: 5, 4, 9, 13. */
 uint64_t pageledger_take(const uint8_t *ram, size_t ram_length, uint32_t *ledger, size_t ledger_length,
                          uint64_t frame, uint64_t owner);
