@@ -13,7 +13,8 @@ import tempfile
 import tally
 
 HERE = pathlib.Path(__file__).resolve().parent.parent
-EXPECTED = "0x40001abc fetched 4\n"
+# The examples, in C and in Rust, and what each prints.
+EXAMPLES = {"walk": "0x40001abc fetched 4\n", "monitor": "0x40008abc fetched 4\ntake answers 13\n"}
 STRICT = ["-Wall", "-Wextra", "-pedantic", "-Werror"]
 
 
@@ -56,15 +57,17 @@ def main():
         count.check(f"the header as {standard}", run(command))
     with tempfile.TemporaryDirectory() as work:
         for compiler, language, standard in (("cc", "c", "c99"), ("c++", "c++", "c++11")):
-            program = f"{work}/walk-{standard}"
-            command = [compiler, "-x", language, f"-std={standard}", *STRICT, "-Iout/include", "examples/walk.c",
-                       "-x", "none", library, "-o", program]
-            count.check(f"examples/walk.c as {standard}", run(command) or run([program], EXPECTED))
+            for name, expected in EXAMPLES.items():
+                program = f"{work}/{name}-{standard}"
+                command = [compiler, "-x", language, f"-std={standard}", *STRICT, "-Iout/include", f"examples/{name}.c",
+                           "-x", "none", library, "-o", program]
+                count.check(f"examples/{name}.c as {standard}", run(command) or run([program], expected))
         for folder, triple in (("aarch64-linux", "aarch64-unknown-linux-gnu"), ("aarch64-none-elf", "aarch64-none-elf")):
             count.check(f"a program for {folder}", linked_alone(folder, triple, work))
     cargo = {"CARGO_TARGET_DIR": str(HERE / "target/host"), "CARGO_NET_OFFLINE": "true"}
-    command = ["cargo", "run", "--quiet", "--manifest-path", "examples/rust/Cargo.toml"]
-    count.check("examples/rust", run(command, EXPECTED, **cargo))
+    for name, expected in EXAMPLES.items():
+        command = ["cargo", "run", "--quiet", "--manifest-path", "examples/rust/Cargo.toml", "--bin", name]
+        count.check(f"examples/rust, {name}", run(command, expected, **cargo))
     command = ["cargo", "test", "--manifest-path", "host/Cargo.toml", "--", "--nocapture", "--test-threads=1"]
     problem = run(command, **cargo)
     for line in run.printed.splitlines():
