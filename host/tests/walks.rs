@@ -2,34 +2,12 @@
 //! anywhere, with fitting and hostile arguments. Deterministic: PAGELEDGER_SEED sets the seed that is printed, and
 //! PAGELEDGER_WALKS the number of walks. Every answer that can be must come 1,000 times.
 mod document;
+mod random;
 
 use document::{Fetched, Walked};
 use pageledger::{Access, Answer, El, Kind, Ram, Short, NUMBERS};
+use random::{setting, Random};
 use std::collections::BTreeMap;
-
-struct Random(u64);
-
-impl Random {
-    fn next(&mut self) -> u64 {
-        self.0 = self.0.wrapping_add(0x9e3779b97f4a7c15);
-        let mut z = self.0;
-        z = (z ^ (z >> 30)).wrapping_mul(0xbf58476d1ce4e5b9);
-        z = (z ^ (z >> 27)).wrapping_mul(0x94d049bb133111eb);
-        z ^ (z >> 31)
-    }
-
-    fn below(&mut self, n: u64) -> u64 {
-        self.next() % n
-    }
-
-    fn one_in(&mut self, n: u64) -> bool {
-        self.below(n) == 0
-    }
-
-    fn pick<T: Copy>(&mut self, from: &[T]) -> T {
-        from[self.below(from.len() as u64) as usize]
-    }
-}
 
 const LOW: u64 = (1 << 48) - 1;
 
@@ -243,13 +221,6 @@ fn possible() -> Vec<String> {
         }
     }
     names
-}
-
-fn setting(name: &str, otherwise: u64) -> u64 {
-    match std::env::var(name) {
-        Ok(text) => text.parse().unwrap_or_else(|_| panic!("{name} is a number, and not {text}")),
-        Err(_) => otherwise,
-    }
 }
 
 #[test]
