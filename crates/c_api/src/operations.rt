@@ -15,10 +15,6 @@ ghost use Rattle.monitor.specs.Share.{sharing as sharing·of, unsharing};
 ghost use Rattle.monitor.specs.Take.{taking};
 ghost use Rattle.monitor.specs.Destroy.{destroying};
 ghost use Rattle.monitor.specs.Invalidated.{invalidating};
-use monitor::guests;
-use monitor::mapping;
-use monitor::pages;
-use monitor::sharing;
 use monitor::start;
 
 #[no_mangle]
@@ -33,7 +29,7 @@ pub extern "C" fn pageledger_create(ram: &mut [u8], ledger: &mut [u32], g: u64) 
     requires { ⌜ Sound (now ram) (now ledger) ⌝ }
     ensures { λ r. ⌜ Answers (creating g) (now (ram .entry)) (now (ledger .entry)) r (now (ram .exit)) (now (ledger .exit)) ⌝ }
 {
-    guests::create(ram, ledger, g)
+    monitor::create(ram, ledger, g)
 }
 
 #[no_mangle]
@@ -41,7 +37,7 @@ pub extern "C" fn pageledger_give(ram: &mut [u8], ledger: &mut [u32], f: u64, g:
     requires { ⌜ Sound (now ram) (now ledger) ⌝ }
     ensures { λ r. ⌜ Answers (giving f g) (now (ram .entry)) (now (ledger .entry)) r (now (ram .exit)) (now (ledger .exit)) ⌝ }
 {
-    pages::give(ram, ledger, f, g)
+    monitor::give(ram, ledger, f, g)
 }
 
 #[no_mangle]
@@ -58,7 +54,7 @@ pub extern "C" fn pageledger_map(
     ensures { λ k. ⌜ (k ≡ 0 → Translates (Map f g a r (pick-of (now (ledger .entry)))) (now (ram .entry)) (now (ledger .entry)) (now (ram .exit)) (now (ledger .exit))) ⌝ }
     ensures { λ k. ⌜ (k ≡ 0 → Finds g a (some (f, r)) (now (ram .exit)) (now (ledger .exit))) ⌝ }
 {
-    mapping::map(ram, ledger, f, g, a, r)
+    monitor::map(ram, ledger, f, g, a, r)
 }
 
 #[no_mangle]
@@ -68,7 +64,7 @@ pub extern "C" fn pageledger_unmap(ram: &mut [u8], ledger: &mut [u32], a: u64, g
     ensures { λ r. ⌜ (r ≡ 0 → Translates (Unmap g a) (now (ram .entry)) (now (ledger .entry)) (now (ram .exit)) (now (ledger .exit))) ⌝ }
     ensures { λ r. ⌜ (r ≡ 0 → Finds g a none (now (ram .exit)) (now (ledger .exit))) ⌝ }
 {
-    mapping::unmap(ram, ledger, a, g)
+    monitor::unmap(ram, ledger, a, g)
 }
 
 #[no_mangle]
@@ -83,7 +79,7 @@ pub extern "C" fn pageledger_share(
     requires { ⌜ Sound (now ram) (now ledger) ⌝ }
     ensures { λ r. ⌜ Answers (sharing·of g f h w) (now (ram .entry)) (now (ledger .entry)) r (now (ram .entry)) (now (ledger .exit)) ⌝ }
 {
-    sharing::share(ram, ledger, g, f, h, w)
+    monitor::share(ram, ledger, g, f, h, w)
 }
 
 #[no_mangle]
@@ -91,7 +87,7 @@ pub extern "C" fn pageledger_unshare(ram: &[u8], ledger: &mut [u32], g: u64, f: 
     requires { ⌜ Sound (now ram) (now ledger) ⌝ }
     ensures { λ r. ⌜ Answers (unsharing g f h) (now (ram .entry)) (now (ledger .entry)) r (now (ram .entry)) (now (ledger .exit)) ⌝ }
 {
-    sharing::unshare(ram, ledger, g, f, h)
+    monitor::unshare(ram, ledger, g, f, h)
 }
 
 #[no_mangle]
@@ -99,7 +95,7 @@ pub extern "C" fn pageledger_take(ram: &[u8], ledger: &mut [u32], f: u64, g: u64
     requires { ⌜ Sound (now ram) (now ledger) ⌝ }
     ensures { λ r. ⌜ Answers (taking f g) (now (ram .entry)) (now (ledger .entry)) r (now (ram .entry)) (now (ledger .exit)) ⌝ }
 {
-    pages::take(ram, ledger, f, g)
+    monitor::take(ram, ledger, f, g)
 }
 
 #[no_mangle]
@@ -107,7 +103,7 @@ pub extern "C" fn pageledger_destroy(ram: &[u8], ledger: &mut [u32], g: u64) -> 
     requires { ⌜ Sound (now ram) (now ledger) ⌝ }
     ensures { λ r. ⌜ Answers (destroying g) (now (ram .entry)) (now (ledger .entry)) r (now (ram .entry)) (now (ledger .exit)) ⌝ }
 {
-    guests::destroy(ram, ledger, g)
+    monitor::destroy(ram, ledger, g)
 }
 
 #[no_mangle]
@@ -115,5 +111,5 @@ pub extern "C" fn pageledger_invalidated(ram: &[u8], ledger: &mut [u32], g: u64)
     requires { ⌜ Sound (now ram) (now ledger) ⌝ }
     ensures { λ r. ⌜ Answers (invalidating g) (now (ram .entry)) (now (ledger .entry)) r (now (ram .entry)) (now (ledger .exit)) ⌝ }
 {
-    guests::invalidated(ram, ledger, g)
+    monitor::invalidated(ram, ledger, g)
 }

@@ -3,8 +3,8 @@ use Prim.Native.Nat.{ℕ, _≤_}
 use mathlib.Core.Path.{_≡_}
 use mathlib.Core.List.{List, _++_}
 use lib.ListN.{length, take}
-use Rattle.walk.specs.declared.Kind.{Kind}
-use Rattle.walk.specs.declared.Kind.the-variants.{WalkAbort, Translation, NotModelled, AccessFlag, Permission}
+use Rattle.descriptor.specs.declared.Kind.{Kind}
+use Rattle.descriptor.specs.declared.Kind.the-variants.{WalkAbort, Translation, NotModelled, AccessFlag, Permission}
 use Rattle.walk.specs.declared.Answer.{Answer}
 use Rattle.walk.specs.declared.Answer.the-variants.{Found, Fault, During, Refused}
 use Rattle.printing.specs.declared.answers.Text.{Text}
