@@ -1,0 +1,2 @@
+-- For the proofs of the code.
+mod Told
