@@ -141,8 +141,8 @@ def show(seen):
     for name, refusals in REFUSALS.items():
         cells = [seen[name, str(n)] if n in (0, *refusals) or seen[name, str(n)] else "-" for n in numbers]
         print(f"{name:12}" + "".join(f"{cell:>6}" for cell in cells))
-    others = {name: count for (name, answer), count in seen.items() if answer == "error: setup needed"}
-    print(f"without a ledger: {sum(others.values())}")
+    others = sum(count for (_, answer), count in seen.items() if answer == "error: setup needed")
+    print(f"error: setup needed: {others}")
     wanted = [(name, str(n)) for name, refusals in REFUSALS.items() for n in (0, *refusals)]
     return [kind for kind in wanted if seen[kind] == 0] + ([] if others else ["error: setup needed"])
 
@@ -164,7 +164,7 @@ def main():
         seen.update((line.split()[0], answer) for line, answer in found if line.split()[0] in REFUSALS)
         count.check(file, problem)
     missing = show(seen)
-    done = sum(seen.values())
+    done = sum(number for (_, answer), number in seen.items() if answer.isdecimal())
     count.check("every answer of every operation", f"never seen: {missing}" if missing else None)
     count.check(f"{LEAST} operations", f"only {done}" if done < LEAST else None)
     print(f"seed {words.seed}, {done} operations; {passed_over} words of tables not compared")
