@@ -59,8 +59,8 @@ class Follower:
         frames = self.session.monitor.frames
         tables = re.findall(r"^(\d+) table \d$", dict(printed).get("ledger", ""), re.M)
         self.taken = {f for f in map(int, tables) if f < len(frames) and frames[f].kind == "free"}
-        peeks = ((line.split()[1], answer) for line, answer in printed if line.startswith("peek "))
-        self.words = {int(place, 0): int(word, 0) for place, word in peeks if word.startswith("0x")}
+        peeks = ((line.split()[1], word) for line, word in printed if line.startswith("peek "))
+        self.words = {int(place, 0): int(word, 0) for place, word in peeks if re.fullmatch("0x[0-9a-f]{16}", word)}
         self.guessed = False
 
     def choose(self, slot):
@@ -74,7 +74,7 @@ class Follower:
         self.taken.remove(f)
         self.unsure.discard(f)
         if self.guessed:
-            self.unsure |= {f, (slot - ledger.ram.b) // FRAME}
+            self.unsure |= {f, f if slot is None else (slot - ledger.ram.b) // FRAME}
         return f
 
     def problem(self, line, printed):
@@ -90,15 +90,14 @@ class Follower:
             if {first // FRAME, (first + 7) // FRAME} & self.unsure:
                 self.passed_over += 1
                 return None
-        return tally.first_difference((printed or "").encode(), wanted.encode())
+        return tally.first_difference(printed.encode(), wanted.encode())
 
 
 def pairs(lines, printed):
     """Each line of a script with what was printed for it: for `ledger` a line for each frame."""
     frames, at, found = 0, 0, []
     for line in lines:
-        whole = line == "ledger" and not printed[at : at + 1] == ["error: setup needed"]
-        count = frames if whole else 1
+        count = frames if line == "ledger" and printed[at : at + 1] != ["error: setup needed"] else 1
         found.append((line, "\n".join(printed[at : at + count])))
         at += count
         if line.startswith("setup ") and found[-1][1] == "0":
