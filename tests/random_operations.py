@@ -68,13 +68,15 @@ class Follower:
         ledger = self.session.monitor
         if not self.taken:
             return ledger.free[-1]
+        above = None if slot is None else (slot - ledger.ram.b) // FRAME
         told = [f for f in self.taken if self.words.get(slot) == ledger.address(f) + 3]
-        self.guessed = self.guessed or not (told or len(self.taken) == 1)
+        if above in self.unsure or len(self.taken) > 1 and slot not in self.words:
+            self.guessed = True
         f = told[0] if told else min(self.taken)
         self.taken.remove(f)
         self.unsure.discard(f)
         if self.guessed:
-            self.unsure |= {f, f if slot is None else (slot - ledger.ram.b) // FRAME}
+            self.unsure |= {f, above}
         return f
 
     def problem(self, line, printed):
