@@ -96,7 +96,8 @@ def question(image):
 def about_ledger(image):
     """An operation or a question with any numbers, while no guest exists: create is given no number of a guest."""
     random = image.random
-    some = lambda: random.choice((0, 1, 4, 5, 4096, image.n - 1, image.n, 1 << 32, TOP, ALL_ONES, random.getrandbits(64)))
+    usual = (0, 1, 4, 5, FRAME, image.n - 1, image.n, 1 << 32, TOP, ALL_ONES)
+    some = lambda: random.choice((*usual, random.getrandbits(64)))
     if random.random() < 0.1:
         return "ledger" if image.n <= 100 else f"translate {some()} {some()} {random.choice('rwx')}"
     name = random.choice(list(COUNTS))

@@ -5,7 +5,7 @@ After each operation a script asks for the whole ledger, for the guests and for 
 
 import monitor
 import script
-from walk import FRAME, TOP, bits
+from walk import FRAME, TOP
 
 HOSTILE = (0, 1, 4, 5, 8, 16, 4095, FRAME, (1 << 32) - 1, 1 << 32, (1 << 32) + 1, (1 << 32) + 2)
 HOSTILE += (TOP - FRAME, TOP - 1, TOP, TOP + FRAME, 1 << 63, (1 << 64) - FRAME, (1 << 64) - 2, (1 << 64) - 1)
@@ -34,6 +34,7 @@ class Machine:
         return page ^ page & 511 << low | self.random.choice((0, 1, 2, 255, 511)) << low
 
     def ask(self, line):
+        """Adds a line that changes nothing."""
         self.lines.append(line)
 
     def act(self, line):
@@ -181,15 +182,14 @@ class Machine:
         f = self.frames(lambda frame: frame.kind == "page", 0.8)
         if self.session.monitor.frames[f].holds_table():
             return
-        level = self.random.randrange(4)
-        place = self.b + FRAME * f + 8 * bits(self.random.choice(self.pages), 47 - 9 * level, 39 - 9 * level)
+        place = self.b + FRAME * f + 8 * monitor.index(self.random.choice(self.pages), self.random.randrange(4))
         frame = self.b + FRAME * self.random.randrange(self.n)
         value = self.random.choice((frame + 3, monitor.entry(frame, 7), self.random.getrandbits(64)))
         self.act(f"word {place:#x} {value:#x}")
         self.stored.setdefault(f, set()).add(place)
 
     def question(self):
-        """With any number."""
+        """A question with any number."""
         number = self.random.choice((*HOSTILE, self.n - 1, self.n, self.random.randrange(self.n)))
         place = self.b + self.random.randrange(-8, FRAME * self.n + 8)
         self.ask(
