@@ -1,0 +1,125 @@
+#!/usr/bin/env python3
+"""pages.py: tools/assurance, tools/architecture and tools/figures notice what they should, on a small tree of their own."""
+
+import pathlib
+import shutil
+import subprocess
+import tempfile
+
+import tally
+
+TOOLS = pathlib.Path(__file__).resolve().parent.parent / "tools"
+ROW = "| 1 | it ends | `low/specs/Word: wordAt`, `low/proofs/Theorems/Ends: ends`, TRUST 2 | `low::read::word` | `low/must-fail/wrong`, `tests/it.py: first` |"
+TREE = {
+    "crates.txt": "low:\nhigh: low\n",
+    "crates/low/src/lib.rt": "// What is low.\npub mod read;\n",
+    "crates/low/src/read.rt": "// A word.\npub fn word(at: u64) -> u64\n    ensures { λ r. ⌜ r ≡ wordAt at ⌝ }\n{\n    at\n}\n",
+    "crates/low/specs/Word.antt": "-- a word\nunfoldable pub wordAt : ℕ → ℕ\nwordAt at = at\n",
+    "crates/low/proofs/Theorems/Ends.antt": "-- it ends\npub ends : (at : ℕ) → wordAt at ≡ at\nends at = refl\n",
+    "crates/low/proofs/read/word/answers": "returns = refl\n",
+    "crates/low/must-fail/wrong.edit": "file: src/read.rt\n",
+    "crates/high/src/main.rt": "// A program.\nfn main() {\n    low::read::word(1);\n}\n",
+    "tests/it.py": "def first():\n    pass\n",
+    "docs/TRUST.md": "# Trust\n\n## 2. The kit\n",
+    "docs/ASSURANCE.md": f"# Page\n\n| no. | sentence | statement | code | noticed by |\n|---|---|---|---|---|\n{ROW}\n",
+    "docs/ARCHITECTURE.md": "# Page\n\n| step | code |\n|---|---|\n| 1 | `low::read::word` |\n",
+}
+# What is done to the tree (a file, what stands there, what stands there then), and what tools/assurance then says.
+FAULTS = [
+    ("docs/ASSURANCE.md", "Word: wordAt", "Word: wordIn", "no wordIn there"),
+    ("docs/ASSURANCE.md", "low/specs/Word", "low/specs/Wort", "no such file"),
+    ("docs/ASSURANCE.md", "| `low::read::word`", "| `low::read::words`", "no such function"),
+    ("docs/ASSURANCE.md", "must-fail/wrong", "must-fail/right", "no such edit"),
+    ("docs/ASSURANCE.md", "it.py: first", "it.py: second", "no second there"),
+    ("docs/ASSURANCE.md", "tests/it.py", "tests/that.py", "no such file"),
+    ("docs/ASSURANCE.md", "TRUST 2", "TRUST 3", "no such section"),
+    ("docs/ASSURANCE.md", ROW, f"{ROW}\n{ROW}", "stands twice"),
+    ("docs/ASSURANCE.md", "| it ends |", "| |", "a cell is empty"),
+    ("docs/ASSURANCE.md", ROW, "| 1 | it ends | by luck | none | none |", "nothing carries it"),
+    ("docs/ASSURANCE.md", ROW, "| 1 | it ends | it does | `low::read::word` | none |", "a theorem that no row names"),
+    ("docs/ARCHITECTURE.md", "read::word", "read::worse", "no such function"),
+    ("crates/low/src/read.rt", "pub fn word", "pub fn byte() {\n}\n\npub fn word", "low::read::byte: a public function that no row names"),
+    ("crates/low/src/read.rt", "pub fn word", "pub fn words", "no such function"),
+    ("crates/low/proofs/Theorems/Ends.antt", "ends", "stops", "no ends there"),
+    ("docs/TRUST.md", "2.", "1.", "no such section"),
+]
+
+
+def made(room):
+    """The small tree, with today's tools."""
+    for file, text in TREE.items():
+        path = pathlib.Path(room, file)
+        path.parent.mkdir(parents=True, exist_ok=True)
+        path.write_text(text, encoding="utf-8")
+    pathlib.Path(room, "tools").mkdir()
+    for tool in ("assurance", "architecture", "figures"):
+        shutil.copy(TOOLS / tool, f"{room}/tools")
+
+
+def run(room, *words):
+    ran = subprocess.run([f"{room}/tools/{words[0]}", *words[1:]], capture_output=True, text=True)
+    return ran.returncode, ran.stdout + ran.stderr
+
+
+def edited(room, file, old, new):
+    path = pathlib.Path(room, file)
+    path.write_text(path.read_text(encoding="utf-8").replace(old, new), encoding="utf-8")
+
+
+def wants(ran, status, text):
+    """What is wrong with a run that must end so and say so."""
+    if ran[0] != status or text not in ran[1]:
+        return f"ended with {ran[0]} and said {ran[1]!r}, and not {status} and {text!r}"
+    return None
+
+
+def check_assurance(count):
+    with tempfile.TemporaryDirectory() as room:
+        made(room)
+        count.check("a page that is right", wants(run(room, "assurance"), 0, "stand for something, 0 things are wrong"))
+    for file, old, new, says in FAULTS:
+        with tempfile.TemporaryDirectory() as room:
+            made(room)
+            edited(room, file, old, new)
+            count.check(f"{file}: {new[:40]}", wants(run(room, "assurance"), 1, says))
+    with tempfile.TemporaryDirectory() as room:
+        made(room)
+        shutil.move(f"{room}/crates/low/src/read.rt", f"{room}/crates/low/src/fetch.rt")
+        count.check("a function that moved", wants(run(room, "assurance"), 1, "no such function"))
+        count.check("its row corrected", wants(run(room, "assurance", "--correct"), 0, "low::read::word is now low::fetch::word"))
+
+
+def check_architecture(count):
+    with tempfile.TemporaryDirectory() as room:
+        made(room)
+        count.check("no picture", wants(run(room, "architecture", "--check"), 1, "is not what the crates give"))
+        count.check("a picture", wants(run(room, "architecture"), 0, "wrote"))
+        picture = pathlib.Path(room, "docs/architecture.svg").read_text(encoding="utf-8")
+        count.check("its arc", None if picture.count("marker-end") == 1 else "there is not one arc")
+        count.check("today's picture", wants(run(room, "architecture", "--check"), 0, "is what the crates give"))
+        edited(room, "crates/high/src/main.rt", "low::read::word(1);", "")
+        count.check("a picture gone stale", wants(run(room, "architecture", "--check"), 1, "is not what the crates give"))
+
+
+def check_figures(count):
+    with tempfile.TemporaryDirectory() as room:
+        made(room)
+        commit = ["git", "-C", room, "-c", "user.name=n", "-c", "user.email=e", "commit", "-qam"]
+        for command in (["git", "-C", room, "init", "-q"], ["git", "-C", room, "add", "."], [*commit, "first"]):
+            subprocess.run(command, check=True)
+        count.check("figures", wants(run(room, "figures"), 0, "| low | 4 | 1 | 2 | 3 | 0 | 1 | 1 | ? | ? |"))
+        edited(room, "crates/low/proofs/read/word/answers", "refl", "sym refl")
+        subprocess.run([*commit, "second"], check=True)
+        count.check("a proof repaired", wants(run(room, "figures", "HEAD~1..HEAD"), 0, "- low/proofs/read/word/answers: 1 came and 1 went"))
+
+
+def main():
+    count = tally.Tally()
+    check_assurance(count)
+    check_architecture(count)
+    if shutil.which("git"):
+        check_figures(count)
+    count.finish()
+
+
+main()
