@@ -1,4 +1,1 @@
-pub mod Way
-pub mod Unmap
 pub mod Map
-pub mod Found

@@ -1,37 +1,39 @@
--- map: the tests on the arguments, the plan that the check makes, the tables that the doing makes, and the two slices after it.
-use mathlib.Core.Path.{_≡_, refl, sym, ap, subst, _∙_}
+-- map: the tests on the arguments, the plan that the check makes, and the two slices after the doing.
+use mathlib.Core.Path.{_≡_, refl, sym, ap, _∙_}
 use mathlib.Core.Bool.{Bool, true, false, not, _&&_, _||_}
 use mathlib.Core.Logic.{inl, inr}
-use mathlib.Core.Option.{Option}
+use mathlib.Core.Option.{Option, some}
 use mathlib.Core.List.{List}
-use Prim.Native.Nat.{ℕ, zero, suc, _+_, _*_, _-_, _<_, _≤_, _/_, _%_, _^_}
+use Prim.Native.Nat.{ℕ, suc, _+_, _-_, _<_, _≤_, _/_, _%_, _^_}
 use native.Mathlib.Omega.{arith}
-use native.Mathlib.Nat.{div-add-mod'}
 use lib.Dec.{eqb, ltb, leb}
 use lib.ListN.{length}
 use borrow.Author.Tests.{le-leb, lt-leb, lt-ltb, le-ltb, ne-eqb}
-use Rattle.model.specs.Base.{lt?, upd, upd-same, upd2}
-use Rattle.model.specs.State.{State, free, table, page, pages, is-guest, is-page, is-page-of, free-frames}
-use Rattle.model.specs.Entry.{empty, table-entry, page-entry}
-use Rattle.model.specs.Translate.{upper, index, entry-at, Page, is-some, mapped, missing}
-use Rattle.model.specs.Changes.{zeros, with-table, Grown, grow, with-page, with-mapping}
+use Rattle.model.specs.Base.{lt?, upd2}
+use Rattle.model.specs.State.{State, table, page, pages, is-page, is-page-of, free-frames}
+use Rattle.model.specs.Entry.{page-entry}
+use Rattle.model.specs.Translate.{Page, is-some, mapped, missing}
+use Rattle.model.specs.Changes.{Grown, grow, with-page, with-mapping}
 use Rattle.model.specs.Operations.{Out, refuse, done, refusal, check, page-address, is-rights, shares, may-map, map}
-use Rattle.model.specs.WalkLaws.{At, grow-new, reads-empty, shows}
-use Rattle.model.specs.Invariant.Core.{Core, May, low}
-use Rattle.model.specs.Invariant.Choice.{free-less}
+use Rattle.model.specs.WalkLaws.{shows}
+use Rattle.model.specs.Invariant.Core.{May, low}
 use Rattle.model.specs.Invariant.Way.{translate-at}
-use Rattle.model.specs.Invariant.NewTable.{linked-core, linked-new, linked-keep}
 use Rattle.model.specs.Invariant.Answer.{core-alone, then-is, may-is}
 use Rattle.model.specs.Invariant.MapUnmap.{address-low, map-good}
 use Rattle.ledger.specs.Layout.{size-of, first-of, exists-of, kind-of, shared-of, count-of, word-of, pick-of, state-in, state-of}
-use Rattle.ledger.specs.Fields.{remade, with-kind, with-count, with-words}
-use Rattle.ledger.specs.Stock.{Changed, Taken}
-use Rattle.ledger.specs.Words.{Within, state-words}
-use Rattle.ledger.specs.Sound.{Sound, free-of, free-is, chosen, within, count-fits}
-use Rattle.mapping.specs.declared.Plan.{Plan}
-use Rattle.mapping.specs.declared.Plan.the-variants.{Stop, Go}
+use Rattle.ledger.specs.Fields.{remade, with-count, with-words}
+use Rattle.ledger.specs.Stock.{Changed}
+use Rattle.ledger.specs.Words.{state-words}
+use Rattle.ledger.specs.Sound.{Sound, free-of, free-is, chosen, count-fits}
+use Rattle.descent.specs.declared.Plan.{Plan}
+use Rattle.descent.specs.declared.Plan.the-variants.{Stop, Go}
 use Rattle.operation.specs.Answers.{Operation, Done, passed}
-use Rattle.mapping.specs.Way.{Ended, ended-above, ended-missing, last-serves, last-leaf, last-empty}
+use Rattle.descent.specs.Way.{Ended, ended-above, ended-missing, last-serves, last-leaf, last-empty}
+use Rattle.model.specs.Machine.{Map, answer}
+use Rattle.model.specs.Invariant.Effects.{rows}
+use Rattle.model.specs.Invariant.RoundTrip.{after-map}
+use Rattle.operation.specs.Found.{Translates, Finds, finds-asked, Nonzero, tested, was-done}
+use Rattle.tables.specs.NewTable.{Growing, Made}
 
 abbrev pub mapping : (f g a r : ℕ) → Operation
 mapping f g a r s pick = map s f g a r pick
@@ -196,141 +198,6 @@ module _ (m l : List ℕ) (ok : Sound m l) (f g a r k : ℕ) (e : k ≡ refusal 
         pub plan-go : h ≤ c → Ready (state-of m l) f g a r t h
         plan-go y = let u = free-is l (ok .stock) m in record { granted = all-granted; ended = way; unmapped = sym q ∙ n; enough = omega arith }
 
--- where the doing stands: h tables are missing below t
-pub record Growing (m l : List ℕ) (g v h t : ℕ) : Type 0 where
-  pub sound : Sound m l
-  pub high : h ≤ 3
-  pub page-low : v < pages
-  pub serves : At (state-of m l) g h v t
-  pub nothing-yet : 0 < h → state-of m l .word t (index h v) ≡ 0
-  pub enough : h ≤ free-of l
-
--- table u is made below t
-pub record Made (m l : List ℕ) (g v h t u : ℕ) (m′ l′ : List ℕ) : Type 0 where
-  pub growing : Growing m′ l′ g v (h - 1) u
-  pub grows : grow h (state-of m l) g t v (pick-of l) ≡ grow (h - 1) (state-of m′ l′) g u v (pick-of l′)
-  pub pages-stay : (f o : ℕ) → state-of m l .kind f ≡ page o → state-of m′ l′ .kind f ≡ page o
-
-upper-less : (h v : ℕ) → upper h v ≤ v
-unfolding upper
-upper-less zero v = omega arith
-upper-less (suc h) v = let a = upper-less h v in omega arith
-
-module _ (m l : List ℕ) (g v h t : ℕ) (w : Growing m l g v h t) where
-  pub grow-guest : is-guest g ≡ true
-  grow-guest = w .sound .core .guests-only g (w .sound .core .table-exists t g h (upper (suc h) v) (w .serves))
-
-  pub grow-low : t < size-of l
-  grow-low = unfold state-in in low (state-of m l) (w .sound .core) t (table g h (upper (suc h) v)) (w .serves) refl
-
-  pub grow-words : (t < 2 ^ 36) × Within m t
-  grow-words = let k = grow-low in let few = w .sound .stock .few in (omega arith, within m l (w .sound) t k)
-
-  pub grow-room : (first f : ℕ) → first ≡ first-of l → f < size-of l → first + f < 2 ^ 36
-  grow-room first f e k = let room : first-of l + size-of l ≤ pages = unfold state-in in w .sound .core .room in omega arith
-
-  pub grow-range : 0 < h → (p : ℕ) → p ≡ upper h v → p < 2 ^ 27
-  grow-range k p e = go h k e
-    where
-      go : (h : ℕ) → 0 < h → p ≡ upper h v → p < 2 ^ 27
-      go zero k e = absurd (omega arith)
-      go (suc h) k e = let a = upper-less h v in let b = w .page-low in let c : p ≡ upper h v / 512 = unfold upper in e in omega arith
-
--- one table
-module _ (m l : List ℕ) (g v k t : ℕ) (w : Growing m l g v (suc k) t) (p u first : ℕ) (ep : p ≡ upper (suc k) v) (ef : first ≡ first-of l)
-    (eu : u ≡ pick-of l 0) (low-u : u < size-of l) (free-u : kind-of l u ≡ free) (m₁ m′ l′ : List ℕ)
-    (w1 : word-of m₁ ≡ upd (word-of m) u zeros) (taken : Taken u (table g k p) l l′) (w2 : word-of m′ ≡ upd2 (word-of m₁) t (p % 512) ((first + u) * 4096 + 3))
-    (len : length m′ ≡ length m) where
-  abbrev s : State
-  s = state-of m l
-
-  abbrev W : ℕ → ℕ → ℕ
-  W = upd2 (upd (word-of m) u zeros) t (index (suc k) v) (table-entry (first-of l) u)
-
-  abbrev s′ : State
-  s′ = with-table s t (index (suc k) v) u g k (upper (suc k) v)
-
-  words : word-of m′ ≡ W
-  unfolding table-entry
-  words =
-      w2 ∙ ap (λ (X : ℕ → ℕ → ℕ). upd2 X t (p % 512) ((first + u) * 4096 + 3)) w1
-      ∙ ap (λ (y : ℕ). upd2 (upd (word-of m) u zeros) t (y % 512) ((first + u) * 4096 + 3)) ep
-      ∙ ap (λ (y : ℕ). upd2 (upd (word-of m) u zeros) t (index (suc k) v) ((y + u) * 4096 + 3)) ef
-
-  same : with-kind u (table g k (upper (suc k) v)) (with-words W s) ≡ s′
-  unfolding with-kind with-words remade with-table state-in
-  same = refl
-
-  state : state-of m′ l′ ≡ s′
-  state =
-      taken .changes .state m′ ∙ ap (with-kind u (table g k p)) (state-words m m′ l W words)
-      ∙ ap (λ (y : ℕ). with-kind u (table g k y) (with-words W s)) ep ∙ same
-
-  was : entry-at s t (index (suc k) v) ≡ empty
-  was = reads-empty s t (index (suc k) v) (w .nothing-yet (omega arith))
-
-  free-s : s .kind u ≡ free
-  free-s = unfold state-in in free-u
-
-  range : upper (suc (suc k)) v * 512 + index (suc k) v ≡ upper (suc k) v
-  unfolding upper
-  range = div-add-mod' (upper k v / 512) 512
-
-  size-is : size-of l′ ≡ size-of l
-  size-is = unfold state-in with-table in ap (λ (x : State). x .size) state
-
-  fewer : free-frames s′ + 1 ≡ free-frames s
-  unfolding free-frames with-table state-in
-  fewer = free-less (size-of l) (kind-of l) u (table g k (upper (suc k) v)) low-u free-u refl
-
-  still : Sound m′ l′
-  still = record {
-    stock = taken .changes .stock;
-    ram-fits = let a = w .sound .ram-fits in let b = size-is in omega arith;
-    core = subst (λ (x : State). Core x) (sym state) (linked-core s (w .sound .core) t (index (suc k) v) u g k (upper (suc (suc k)) v) (upper (suc k) v) (w .serves) (omega arith) was range free-s);
-  }
-
-  grown : Growing m′ l′ g v k u
-  grown = record {
-    sound = still;
-    high = let a = w .high in omega arith;
-    page-low = w .page-low;
-    serves = ap (λ (x : State). x .kind u) state ∙ (unfold with-table in upd-same (s .kind) u (table g k (upper (suc k) v)));
-    nothing-yet = λ _. ap (λ (x : State). x .word u (index k v)) state
-        ∙ linked-new s (w .sound .core) t (index (suc k) v) u g k (upper (suc (suc k)) v) (upper (suc k) v) (w .serves) (omega arith) was range free-s u refl (index k v);
-    enough =
-        let a = w .enough in
-        let b = free-is l (w .sound .stock) m in
-        let c = free-is l′ (taken .changes .stock) m′ in
-        let d = ap free-frames state in
-        let e = fewer in
-        omega arith;
-  }
-
-  goes-on : grow (suc k) s g t v (pick-of l) ≡ grow k (state-of m′ l′) g u v (pick-of l′)
-  goes-on =
-      grow-new s k t v g (pick-of l) was
-      ∙ ap (λ (y : ℕ). grow k (with-table s t (index (suc k) v) y g k (upper (suc k) v)) g y v (λ j. pick-of l (suc j))) (sym eu)
-      ∙ ap (λ (y : State). grow k y g u v (λ j. pick-of l (suc j))) (sym state)
-      ∙ ap (λ (y : ℕ → ℕ). grow k (state-of m′ l′) g u v y) (sym (taken .next eu))
-
-  stay : (f o : ℕ) → s .kind f ≡ page o → state-of m′ l′ .kind f ≡ page o
-  stay f o e =
-      ap (λ (x : State). x .kind f) state
-      ∙ linked-keep s (w .sound .core) t (index (suc k) v) u g k (upper (suc (suc k)) v) (upper (suc k) v) (w .serves) (omega arith) was range free-s f (page o) e refl
-
-pub make-end : (m l : List ℕ) (g v h t : ℕ) → Growing m l g v h t → 0 < h → (p u first : ℕ) → p ≡ upper h v → first ≡ first-of l → u ≡ pick-of l 0 → u < size-of l → kind-of l u ≡ free → (m₁ m′ l′ : List ℕ) →
-    word-of m₁ ≡ upd (word-of m) u zeros → Taken u (table g (h - 1) p) l l′ → word-of m′ ≡ upd2 (word-of m₁) t (p % 512) ((first + u) * 4096 + 3) → length m′ ≡ length m → Made m l g v h t u m′ l′
-make-end m l g v h t w pos p u first ep ef eu low-u free-u m₁ m′ l′ w1 taken w2 len =
-    let e : h ≡ suc (h - 1) = omega arith in
-    let x = subst (λ (y : ℕ). Growing m l g v y t) e w in
-    let q = ep ∙ ap (λ (y : ℕ). upper y v) e in
-    record {
-      growing = grown m l g v (h - 1) t x p u first q ef eu low-u free-u m₁ m′ l′ w1 taken w2 len;
-      grows = ap (λ (y : ℕ). grow y (state-of m l) g t v (pick-of l)) e ∙ goes-on m l g v (h - 1) t x p u first q ef eu low-u free-u m₁ m′ l′ w1 taken w2 len;
-      pages-stay = stay m l g v (h - 1) t x p u first q ef eu low-u free-u m₁ m′ l′ w1 taken w2 len;
-    }
-
 -- all tables
 pub record Filling (m₀ l₀ : List ℕ) (f g v : ℕ) (m l : List ℕ) (h t : ℕ) : Type 0 where
   pub growing : Growing m l g v h t
@@ -430,3 +297,20 @@ module _ (m₀ l₀ : List ℕ) (ok : Sound m₀ l₀) (f g a r t₀ h₀ : ℕ)
 
         made : map (state-of m₀ l₀) f g a r (pick-of l₀) ≡ done (state-of m′ l′)
         made = map-done (state-of m₀ l₀) f g a r (pick-of l₀) (ready .granted) (ready .unmapped) room ∙ ap done (all-is ∙ sym state)
+
+-- what is promised of an answer of 0
+module _ (m l : List ℕ) (ok : Sound m l) (m′ l′ : List ℕ) where
+  module _ (f g a r : ℕ) (d : Done (mapping f g a r) m l m′ l′) where
+    pub map-effect : Translates (Map f g a r (pick-of l)) m l m′ l′
+    unfolding answer
+    map-effect = then-is (answer (state-of m l) (Map f g a r (pick-of l))) (state-of m′ l′) (rows (state-of m l) (ok .core) (Map f g a r (pick-of l)) (chosen l (ok .stock) m)) (d .made)
+
+    pub map-found : Finds g a (some (f, r)) m′ l′
+    map-found = finds-asked m′ l′ (d .sound) g a (some (f, r)) (after-map (state-of m l) (ok .core) f g a r (pick-of l) (chosen l (ok .stock) m) (state-of m′ l′) (d .made))
+
+pub map-nonzero : (s : State) (f g a r : ℕ) (pick : ℕ → ℕ) → Nonzero (map s f g a r pick)
+unfolding map
+map-nonzero s f g a r pick =
+    tested (s .exists g) 5 _ (omega arith) (tested (not (s .dirty g)) 14 _ (omega arith) (tested (page-address a) 7 _ (omega arith) (tested (is-rights r) 8 _ (omega arith)
+    (tested (ltb f (s .size)) 4 _ (omega arith) (tested (may-map s g f r) 9 _ (omega arith) (tested (not (mapped s g (a / 4096))) 10 _ (omega arith)
+    (tested (leb (missing s g (a / 4096)) (free-frames s)) 3 _ (omega arith) (was-done _))))))))

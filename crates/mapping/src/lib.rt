@@ -1,134 +1,24 @@
-// Document 03, section 3: map and unmap. The check goes down the tables once, and what it finds is a plan that the doing starts from.
+// Document 03, section 3: map. The check goes down the tables once, and what it finds is a plan that the doing starts from.
 ghost use mathlib.Core.Path.{_≡_};
 ghost use mathlib.Core.Bool.{true};
-ghost use mathlib.Core.Option.{none, some};
-ghost use Prim.Native.Nat.{_+_, _*_, _<_, _≤_, _^_};
-ghost use Rattle.model.specs.State.{pages, is-guest};
-ghost use Rattle.model.specs.Entry.{page-entry};
-ghost use Rattle.model.specs.Translate.{upper as upper·of, mapped};
-ghost use Rattle.model.specs.Operations.{done, refusal, page-address, is-rights, shares as shares·of};
-ghost use Rattle.model.specs.Machine.{Map, Unmap};
+ghost use mathlib.Core.Option.{some};
+ghost use Prim.Native.Nat.{_+_, _<_};
+ghost use Rattle.model.specs.State.{is-guest};
+ghost use Rattle.model.specs.Translate.{mapped};
+ghost use Rattle.model.specs.Operations.{done, refusal, is-rights, shares as shares·of};
+ghost use Rattle.model.specs.Machine.{Map};
 ghost use Rattle.ledger.specs.Layout.{size-of, exists-of, pick-of, state-of};
 ghost use Rattle.ledger.specs.Stock.{Stock};
 ghost use Rattle.ledger.specs.Sound.{Sound};
 ghost use Rattle.operation.specs.Answers.{Answers, Done};
-ghost use Rattle.mapping.specs.Way.{Ended};
-ghost use Rattle.mapping.specs.Unmap.{unmapping, Slotted, UnmapPlan};
-ghost use Rattle.mapping.specs.Map.{mapping as mapping·of, asked, allows, Ready, MapPlan, Growing, Made};
-ghost use Rattle.mapping.specs.Found.{Translates, Finds};
+ghost use Rattle.operation.specs.Found.{Translates, Finds};
+ghost use Rattle.descent.specs.Way.{Ended};
+ghost use Rattle.mapping.specs.Map.{mapping as mapping·of, asked, allows, Ready, MapPlan};
+use descent::Plan;
 use ledger::frame;
-use ledger::free_set;
 use ledger::guest;
 use ledger::header;
 use ledger::words;
-
-// Where the way through the tables ends.
-struct Place {
-    table: u64,
-    height: u64,
-}
-
-// What a check found: a refusal; or the last table on the way, and for unmap the frame that is mapped, for map the table's height.
-enum Plan {
-    Stop(u64),
-    Go(u64, u64),
-}
-
-fn is_page_address(a: u64) -> bool
-    ensures { λ r. ⌜ r ≡ page-address a ⌝ }
-{
-    if a % 4096 != 0 {
-        return false;
-    }
-    a < 0x1000000000000
-}
-
-// The number v of a page without its last h groups of nine bits.
-fn upper(h: u64, v: u64) -> u64
-    requires { ⌜ h ≤ 3 ⌝ }
-    ensures { λ r. ⌜ r ≡ upper·of h v ⌝ }
-{
-    if h == 0 {
-        return v;
-    }
-    if h == 1 {
-        return v / 512;
-    }
-    if h == 2 {
-        return v / 512 / 512;
-    }
-    v / 512 / 512 / 512
-}
-
-fn descend(ram: &[u8], ledger: &[u32], g: u64, v: u64) -> Place
-    requires { ⌜ Sound (now ram) (now ledger) ⌝ }
-    requires { ⌜ (exists-of (now ledger) g ≡ true) × (v < pages) ⌝ }
-    ensures { λ r. ⌜ Ended (state-of (now (ram .entry)) (now (ledger .entry))) g v (r .height) (r .table) ⌝ }
-{
-    let first = header::first(ledger);
-    let mut table = guest::root(ledger, g);
-    let mut height: u64 = 3;
-    while 0 < height {
-        let p = upper(height, v);
-        let x = words::entry(ram, table, p % 512);
-        if x == 0 {
-            return Place { table, height };
-        }
-        table = x / 4096 - first;
-        height -= 1;
-    }
-    Place { table, height }
-}
-
-fn plan_unmap(ram: &[u8], ledger: &[u32], a: u64, g: u64) -> Plan
-    requires { ⌜ Sound (now ram) (now ledger) ⌝ }
-    ensures { λ r. ⌜ UnmapPlan (state-of (now (ram .entry)) (now (ledger .entry))) a g r ⌝ }
-{
-    if !guest::exists(ledger, g) {
-        return Plan::Stop(5);
-    }
-    if !is_page_address(a) {
-        return Plan::Stop(7);
-    }
-    let place = descend(ram, ledger, g, a / 4096);
-    if place.height != 0 {
-        return Plan::Stop(11);
-    }
-    let x = words::entry(ram, place.table, a / 4096 % 512);
-    if x == 0 {
-        return Plan::Stop(11);
-    }
-    let first = header::first(ledger);
-    Plan::Go(place.table, x / 4096 % 0x1000000000 - first)
-}
-
-fn do_unmap(ram: &mut [u8], ledger: &mut [u32], a: u64, g: u64, t: u64, f: u64)
-    requires { ⌜ Sound (now ram) (now ledger) ⌝ }
-    requires { ⌜ Slotted (state-of (now ram) (now ledger)) g a t f ⌝ }
-    ensures { λ _. ⌜ Done (unmapping a g) (now (ram .entry)) (now (ledger .entry)) (now (ram .exit)) (now (ledger .exit)) ⌝ }
-{
-    words::store_entry(ram, t, a / 4096 % 512, 0);
-    let places = frame::count(ledger, f, g);
-    frame::set_count(ledger, f, g, places - 1);
-    guest::set_dirty(ledger, g, 1);
-}
-
-// "unmap a from g: a no longer translates; the count falls by 1; g becomes dirty"
-pub fn unmap(ram: &mut [u8], ledger: &mut [u32], a: u64, g: u64) -> u64
-    requires { ⌜ Sound (now ram) (now ledger) ⌝ }
-    ensures { λ r. ⌜ Answers (unmapping a g) (now (ram .entry)) (now (ledger .entry)) r (now (ram .exit)) (now (ledger .exit)) ⌝ }
-    ensures { λ r. ⌜ (r ≡ 0 → Translates (Unmap g a) (now (ram .entry)) (now (ledger .entry)) (now (ram .exit)) (now (ledger .exit))) ⌝ }
-    ensures { λ r. ⌜ (r ≡ 0 → Finds g a none (now (ram .exit)) (now (ledger .exit))) ⌝ }
-{
-    let plan = plan_unmap(ram, ledger, a, g);
-    match plan {
-        Plan::Stop(k) => k,
-        Plan::Go(t, f) => {
-            do_unmap(ram, ledger, a, g, t, f);
-            0
-        }
-    }
-}
 
 fn has_rights(r: u64) -> bool
     ensures { λ b. ⌜ b ≡ is-rights r ⌝ }
@@ -188,7 +78,7 @@ fn check_map(ram: &[u8], ledger: &[u32], f: u64, g: u64, a: u64, r: u64) -> u64
     if guest::dirty(ledger, g) {
         return 14;
     }
-    if !is_page_address(a) {
+    if !descent::is_page_address(a) {
         return 7;
     }
     if !has_rights(r) {
@@ -228,7 +118,7 @@ fn plan_map(ram: &[u8], ledger: &[u32], f: u64, g: u64, a: u64, r: u64) -> Plan
     if refused != 0 {
         return Plan::Stop(refused);
     }
-    let place = descend(ram, ledger, g, a / 4096);
+    let place = descent::descend(ram, ledger, g, a / 4096);
     if is_mapped(ram, ledger, g, a / 4096, place.table, place.height) {
         return Plan::Stop(10);
     }
@@ -237,32 +127,6 @@ fn plan_map(ram: &[u8], ledger: &[u32], f: u64, g: u64, a: u64, r: u64) -> Plan
         return Plan::Stop(3);
     }
     Plan::Go(place.table, place.height)
-}
-
-// The table below t, of height h, on the way to v: cleared, and then linked.
-fn make_table(ram: &mut [u8], ledger: &mut [u32], g: u64, v: u64, h: u64, t: u64) -> u64
-    requires { ⌜ Growing (now ram) (now ledger) g v h t ⌝ }
-    requires { ⌜ 0 < h ⌝ }
-    ensures { λ u. ⌜ Made (now (ram .entry)) (now (ledger .entry)) g v h t u (now (ram .exit)) (now (ledger .exit)) ⌝ }
-{
-    let p = upper(h, v);
-    let first = header::first(ledger);
-    let u = free_set::next(ledger);
-    words::clear_frame(ram, u);
-    free_set::become_table(ledger, u, g, h - 1, p);
-    words::store_entry(ram, t, p % 512, (first + u) * 4096 + 3);
-    u
-}
-
-fn entry_of_page(first: u64, f: u64, r: u64) -> u64
-    requires { ⌜ first + f < 2 ^ 36 ⌝ }
-    ensures { λ x. ⌜ x ≡ page-entry first f r ⌝ }
-{
-    (first + f) * 4096
-        + 0x73f
-        + 64 * (r % 2)
-        + 128 * (r / 2 % 2)
-        + 0x40000000000000 * (1 - r / 4 % 2)
 }
 
 // Table t of height h is the last that is there.
@@ -274,11 +138,11 @@ fn do_map(ram: &mut [u8], ledger: &mut [u32], f: u64, g: u64, a: u64, r: u64, t:
     let mut table = t;
     let mut height = h;
     while 0 < height {
-        table = make_table(ram, ledger, g, a / 4096, height, table);
+        table = tables::make_table(ram, ledger, g, a / 4096, height, table);
         height -= 1;
     }
     let first = header::first(ledger);
-    let x = entry_of_page(first, f, r);
+    let x = tables::entry_of_page(first, f, r);
     words::store_entry(ram, table, a / 4096 % 512, x);
     let places = frame::count(ledger, f, g);
     frame::set_count(ledger, f, g, places + 1);

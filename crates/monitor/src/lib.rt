@@ -7,11 +7,11 @@ pub use guests::create;
 pub use guests::destroy;
 pub use guests::invalidated;
 pub use mapping::map;
-pub use mapping::unmap;
 pub use pages::give;
 pub use pages::take;
 pub use sharing::share;
 pub use sharing::unshare;
+pub use unmapping::unmap;
 
 // What a frame is; Outside where there is no such frame. A page is mapped in so many places.
 pub enum FrameKind {

@@ -51,6 +51,10 @@ module _ (o : Operation) (m l : List ℕ) where
   pub answered : {m′ l′ : List ℕ} → Done o m l m′ l′ → Answers o m l 0 m′ l′
   answered d = record { sound = d .sound; outcome = rw (d .made) (refl, refl) }
 
+-- the answer, where a check that makes a plan has stopped
+pub plan-refused : (o : Operation) (m l : List ℕ) (k : ℕ) → Sound m l → o (state-of m l) (pick-of l) ≡ refuse k → Answers o m l k m l
+plan-refused o m l k ok e = record { sound = ok; outcome = rw e (refl, refl, refl) }
+
 -- a check, as the code makes it: it stops here, or goes on
 pub stops : (b : Bool) (k : ℕ) (o : Out) → b ≡ false → k ≡ refusal (check b k o)
 unfolding check

@@ -99,7 +99,7 @@ fn check_unshare(ram: &[u8], ledger: &[u32], g: u64, f: u64, h: u64) -> u64
     if frame::share(ledger, f, h) == 0 {
         return 9;
     }
-    held(ledger, f, h)
+    held(ledger, f, h) // h loses it, so what h has mapped and kept counts
 }
 
 // "unshare g's f from h: h may no longer map f"

@@ -1,7 +1,8 @@
 -- Written by tools/prove from the file answers beside it: edit that, and not this.
 -- The missing tables are made, from the highest on; then the entry is written and the place counted.
 use Prim.Native.Nat.{_/_}
-use Rattle.mapping.specs.Map.{Filling, fill-start, fill-more, fill-low, fill-count, grow-guest, grow-words, grow-room, map-end}
+use Rattle.tables.specs.NewTable.{grow-guest, grow-words, grow-room}
+use Rattle.mapping.specs.Map.{Filling, fill-start, fill-more, fill-low, fill-count, map-end}
 use borrow.Author.Needs.{needs}
 use native.Mathlib.Omega.{arith}
 use Rattle.mapping.proofs.do_map.Statement.{statement}

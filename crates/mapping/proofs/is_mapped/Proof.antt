@@ -1,6 +1,6 @@
 -- Written by tools/prove from the file answers beside it: edit that, and not this.
 -- An entry that is not 0, in a last table.
-use Rattle.mapping.specs.Way.{way-words}
+use Rattle.descent.specs.Way.{way-words}
 use Rattle.mapping.specs.Map.{mapped-above, mapped-not, mapped-here}
 use native.Mathlib.Omega.{arith}
 use Rattle.mapping.proofs.is_mapped.Statement.{statement}

@@ -2,11 +2,9 @@
 -- Check, then do; what is promised of an answer of 0 follows from the state after it.
 use mathlib.Core.Path.{subst}
 use Rattle.ledger.specs.Layout.{pick-of, state-of}
-use Rattle.mapping.specs.declared.Plan.{Plan}
-use Rattle.operation.specs.Answers.{answered}
-use Rattle.mapping.specs.Unmap.{plan-refused}
-use Rattle.mapping.specs.Map.{mapping, MapPlan}
-use Rattle.mapping.specs.Found.{map-nonzero, map-effect, map-found}
+use Rattle.descent.specs.declared.Plan.{Plan}
+use Rattle.operation.specs.Answers.{answered, plan-refused}
+use Rattle.mapping.specs.Map.{mapping, MapPlan, map-nonzero, map-effect, map-found}
 use borrow.Author.Needs.{needs}
 use Rattle.mapping.proofs.map.Statement.{statement}
 use Rattle.mapping.proofs.map.Tie as tie
