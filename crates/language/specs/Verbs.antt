@@ -1,5 +1,6 @@
 -- SCRIPT's table: each command's word, its arguments, and the command that they make.
-use Prim.Native.Nat.{ℕ}
+use Prim.Native.Nat.{ℕ, zero, suc}
+use Prim.Native.String.{String}
 use mathlib.Core.Bool.{cond}
 use mathlib.Core.List.{List, [], _∷_, _++_}
 use lib.ListN.{getD, take, replicate}
@@ -17,31 +18,61 @@ use Rattle.language.specs.declared.Operation.the-variants.{Create, Give,
 use Rattle.language.specs.declared.Command.{Command}
 use Rattle.language.specs.declared.Command.the-variants.{SetUp, StoreWord, PeekWord, WalkOne, WalkBoth, Operate, Translate, Frame, Guest, Ledger}
 use Rattle.text.specs.Text.{ascii}
-use Rattle.text.specs.Words.{sameText}
+use Rattle.text.specs.Words.{unblank, wordOf, afterWord, sameText}
+
+-- a command's word, and what it asks for
+pub record Entry : Type 0 where
+  pub word : List ℕ
+  pub verb : Verb
+
+abbrev pub entry : String → Verb → Entry
+entry w v = record { word = ascii w; verb = v }
+
+abbrev pub deeds : List Entry
+deeds =
+    entry "create" (Monitor Creating) ∷
+    entry "give" (Monitor Giving) ∷
+    entry "map" (Monitor Mapping) ∷
+    entry "unmap" (Monitor Unmapping) ∷
+    entry "share" (Monitor Sharing) ∷
+    entry "unshare" (Monitor Unsharing) ∷
+    entry "take" (Monitor Taking) ∷
+    entry "destroy" (Monitor Destroying) ∷
+    entry "invalidated" (Monitor Invalidating) ∷
+    []
+
+abbrev pub verbs : List Entry
+verbs =
+    entry "setup" Setup ∷
+    entry "word" Word ∷
+    entry "peek" Peek ∷
+    entry "stage2" Stage2 ∷
+    entry "walk" Walk ∷
+    entry "translate" Translation ∷
+    entry "frame" OneFrame ∷
+    entry "guest" OneGuest ∷
+    entry "ledger" WholeLedger ∷
+    []
+
+-- what the word w asks for by a table, and `other` where it is none of its words
+unfoldable pub lookup : List ℕ → List Entry → First → First
+lookup w [] other = other
+lookup w (e ∷ t) other = cond (sameText w (e .word)) (Known (e .verb)) (lookup w t other)
 
 unfoldable pub deedOf : List ℕ → First
-deedOf w =
-    cond (sameText w (ascii "create")) (Known (Monitor Creating)) (
-    cond (sameText w (ascii "give")) (Known (Monitor Giving)) (
-    cond (sameText w (ascii "map")) (Known (Monitor Mapping)) (
-    cond (sameText w (ascii "unmap")) (Known (Monitor Unmapping)) (
-    cond (sameText w (ascii "share")) (Known (Monitor Sharing)) (
-    cond (sameText w (ascii "unshare")) (Known (Monitor Unsharing)) (
-    cond (sameText w (ascii "take")) (Known (Monitor Taking)) (
-    cond (sameText w (ascii "destroy")) (Known (Monitor Destroying)) (
-    cond (sameText w (ascii "invalidated")) (Known (Monitor Invalidating)) Unknown))))))))
+deedOf w = lookup w deeds Unknown
 
 unfoldable pub firstOf : List ℕ → First
-firstOf w =
-    cond (sameText w (ascii "setup")) (Known Setup) (
-    cond (sameText w (ascii "word")) (Known Word) (
-    cond (sameText w (ascii "peek")) (Known Peek) (
-    cond (sameText w (ascii "stage2")) (Known Stage2) (
-    cond (sameText w (ascii "walk")) (Known Walk) (
-    cond (sameText w (ascii "translate")) (Known Translation) (
-    cond (sameText w (ascii "frame")) (Known OneFrame) (
-    cond (sameText w (ascii "guest")) (Known OneGuest) (
-    cond (sameText w (ascii "ledger")) (Known WholeLedger) (deedOf w)))))))))
+firstOf w = lookup w verbs (deedOf w)
+
+-- the same as the code finds it, by the word's place in a text
+unfoldable pub wordsOf : ℕ → List ℕ → List (List ℕ)
+wordsOf zero s = []
+wordsOf (suc n) s = wordOf (unblank s) ∷ wordsOf n (afterWord (unblank s))
+
+unfoldable pub placeOf : List ℕ → List (List ℕ) → ℕ
+placeOf w [] = 0
+placeOf w (x ∷ l) = cond (sameText w x) 0 (suc (placeOf w l))
 
 -- what follows: n numbers; then, of an access and an exception level, the first k
 abbrev pub shape : ℕ → ℕ → Shape

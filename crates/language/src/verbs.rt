@@ -1,9 +1,11 @@
 // A line's first word: which command it asks for, what arguments follow, and the command that they make.
 ghost use mathlib.Core.Path.{_≡_};
-ghost use Rattle.language.specs.Verbs.{deedOf, firstOf, deedShape, shapeOf, nth, operationWith, commandWith};
+ghost use Rattle.language.specs.Verbs.{wordsOf, placeOf, deedOf, firstOf, deedShape, shapeOf, nth, operationWith, commandWith};
 use crate::Command;
 use crate::Operation;
 use text::words::same;
+use text::words::word_end;
+use text::words::word_start;
 
 // What a first word asks for.
 pub enum Verb {
@@ -37,70 +39,65 @@ pub enum First {
     Unknown,
 }
 
-fn deed_word(s: &[u8]) -> First
-    ensures { λ r. ⌜ r ≡ deedOf (now (s .entry)) ⌝ }
+// Which of the first n words of `names` is w; n where none is.
+fn place(w: &[u8], names: &[u8], n: usize) -> usize
+    ensures { λ r. ⌜ r ≡ placeOf (now (w .entry)) (wordsOf n (now (names .entry))) ⌝ }
 {
-    if same(s, b"create") {
-        return First::Known(Verb::Monitor(Deed::Creating));
+    let mut at = 0;
+    let mut k = 0;
+    while k < n {
+        let from = word_start(names, at);
+        at = word_end(names, from);
+        if same(w, &names[from..at]) {
+            return k;
+        }
+        k += 1;
     }
-    if same(s, b"give") {
-        return First::Known(Verb::Monitor(Deed::Giving));
-    }
-    if same(s, b"map") {
-        return First::Known(Verb::Monitor(Deed::Mapping));
-    }
-    if same(s, b"unmap") {
-        return First::Known(Verb::Monitor(Deed::Unmapping));
-    }
-    if same(s, b"share") {
-        return First::Known(Verb::Monitor(Deed::Sharing));
-    }
-    if same(s, b"unshare") {
-        return First::Known(Verb::Monitor(Deed::Unsharing));
-    }
-    if same(s, b"take") {
-        return First::Known(Verb::Monitor(Deed::Taking));
-    }
-    if same(s, b"destroy") {
-        return First::Known(Verb::Monitor(Deed::Destroying));
-    }
-    if same(s, b"invalidated") {
-        return First::Known(Verb::Monitor(Deed::Invalidating));
-    }
-    First::Unknown
+    n
 }
 
-pub fn first_word(s: &[u8]) -> First
-    ensures { λ r. ⌜ r ≡ firstOf (now (s .entry)) ⌝ }
+fn deed_word(w: &[u8]) -> First
+    ensures { λ r. ⌜ r ≡ deedOf (now (w .entry)) ⌝ }
 {
-    if same(s, b"setup") {
-        return First::Known(Verb::Setup);
+    let k = place(
+        w,
+        b"create give map unmap share unshare take destroy invalidated",
+        9,
+    );
+    match k {
+        0 => First::Known(Verb::Monitor(Deed::Creating)),
+        1 => First::Known(Verb::Monitor(Deed::Giving)),
+        2 => First::Known(Verb::Monitor(Deed::Mapping)),
+        3 => First::Known(Verb::Monitor(Deed::Unmapping)),
+        4 => First::Known(Verb::Monitor(Deed::Sharing)),
+        5 => First::Known(Verb::Monitor(Deed::Unsharing)),
+        6 => First::Known(Verb::Monitor(Deed::Taking)),
+        7 => First::Known(Verb::Monitor(Deed::Destroying)),
+        8 => First::Known(Verb::Monitor(Deed::Invalidating)),
+        _ => First::Unknown,
     }
-    if same(s, b"word") {
-        return First::Known(Verb::Word);
+}
+
+pub fn first_word(w: &[u8]) -> First
+    ensures { λ r. ⌜ r ≡ firstOf (now (w .entry)) ⌝ }
+{
+    let k = place(
+        w,
+        b"setup word peek stage2 walk translate frame guest ledger",
+        9,
+    );
+    match k {
+        0 => First::Known(Verb::Setup),
+        1 => First::Known(Verb::Word),
+        2 => First::Known(Verb::Peek),
+        3 => First::Known(Verb::Stage2),
+        4 => First::Known(Verb::Walk),
+        5 => First::Known(Verb::Translation),
+        6 => First::Known(Verb::OneFrame),
+        7 => First::Known(Verb::OneGuest),
+        8 => First::Known(Verb::WholeLedger),
+        _ => deed_word(w),
     }
-    if same(s, b"peek") {
-        return First::Known(Verb::Peek);
-    }
-    if same(s, b"stage2") {
-        return First::Known(Verb::Stage2);
-    }
-    if same(s, b"walk") {
-        return First::Known(Verb::Walk);
-    }
-    if same(s, b"translate") {
-        return First::Known(Verb::Translation);
-    }
-    if same(s, b"frame") {
-        return First::Known(Verb::OneFrame);
-    }
-    if same(s, b"guest") {
-        return First::Known(Verb::OneGuest);
-    }
-    if same(s, b"ledger") {
-        return First::Known(Verb::WholeLedger);
-    }
-    deed_word(s)
 }
 
 // A command's arguments: first so many numbers, then of a kind of access and a level the first `others`.
