@@ -18,7 +18,7 @@ empty l = eqb (length l) 0
 unfoldable pub memberText : (first : Bool) (g : ℕ) → List ℕ
 memberText first g = cond first [] (ascii ",") ++ decimalOf g
 
--- "the guests in rising order": of 1 to g, those with `least` or more
+-- "the guests in rising order": of 1 to g, those that `least` or more is shared with
 unfoldable pub listTo : (least : ℕ) (shares : ℕ → ℕ) (g : ℕ) → List ℕ
 listTo least shares zero = []
 listTo least shares (suc g) =
@@ -28,7 +28,7 @@ listTo least shares (suc g) =
 unfoldable pub listText : (least : ℕ) (shares : ℕ → ℕ) → List ℕ
 listText least shares = cond (empty (listTo least shares guests)) (ascii "-") (listTo least shares guests)
 
--- "`page G readers L writers L mapped N`": of each guest, 1 or more is shared with a reader and 2 with a writer
+-- "`page G readers L writers L mapped N`": what is shared is 1 for reading, and 2 for writing too
 unfoldable pub pageText : (owner : ℕ) (shares : ℕ → ℕ) (mapped : ℕ) → List ℕ
 pageText owner shares mapped =
     (ascii "page " ++ decimalOf owner) ++ ascii " readers " ++ listText 1 shares ++ ascii " writers " ++ listText 2 shares ++ (ascii " mapped " ++ decimalOf mapped)

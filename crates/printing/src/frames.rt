@@ -15,7 +15,7 @@ use text::digits::put;
 use text::digits::put_decimal;
 use text::digits::put_field;
 
-// Guest g in a list.
+// Guest g in a list; its number has one digit.
 fn put_member(out: &mut [u8], at: usize, first: bool, g: u64) -> usize
     requires { ⌜ (at + 21 ≤ length (now out)) × (g < 10) ⌝ }
     ensures { λ r. ⌜ Wrote 2 (now (out .entry)) at (now (out .exit)) r (memberText first g) ⌝ }
@@ -60,12 +60,12 @@ fn put_page(
     requires { ⌜ at + 128 ≤ length (now out) ⌝ }
     ensures { λ r. ⌜ Wrote 128 (now (out .entry)) at (now (out .exit)) r (pageText owner (share-told (state-of (now (ram .entry)) (now (ledger .entry))) f) mapped) ⌝ }
 {
-    let readers = put_field(out, at, b"page ", owner);
-    let readers = put(out, readers, b" readers ");
-    let writers = put_list(out, readers, ram, ledger, f, 1);
-    let writers = put(out, writers, b" writers ");
-    let places = put_list(out, writers, ram, ledger, f, 2);
-    put_field(out, places, b" mapped ", mapped)
+    let owned = put_field(out, at, b"page ", owner);
+    let readers = put(out, owned, b" readers ");
+    let read = put_list(out, readers, ram, ledger, f, 1);
+    let writers = put(out, read, b" writers ");
+    let written = put_list(out, writers, ram, ledger, f, 2);
+    put_field(out, written, b" mapped ", mapped)
 }
 
 // What `frame` prints.
@@ -89,9 +89,9 @@ fn put_line(out: &mut [u8], at: usize, ram: &[u8], ledger: &[u32], f: u64) -> us
     requires { ⌜ at + 160 ≤ length (now out) ⌝ }
     ensures { λ r. ⌜ Wrote 160 (now (out .entry)) at (now (out .exit)) r (lineText (state-of (now (ram .entry)) (now (ledger .entry))) f) ⌝ }
 {
-    let number = put_decimal(out, at, f);
-    let kind = put(out, number, b" ");
-    let end = put_frame(out, kind, ram, ledger, f);
+    let numbered = put_decimal(out, at, f);
+    let next = put(out, numbered, b" ");
+    let end = put_frame(out, next, ram, ledger, f);
     put(out, end, b"\n")
 }
 
