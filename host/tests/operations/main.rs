@@ -6,19 +6,19 @@
 //! answer that document 03 lists for an operation must come 100 times.
 mod caches;
 mod cases;
+#[path = "../common/mod.rs"]
+mod common;
 #[allow(dead_code)] // stage 2 alone is wanted here
 #[path = "../document/mod.rs"]
 mod document;
 #[path = "../document/monitor.rs"]
 mod document_03;
-#[path = "../random/mod.rs"]
-mod random;
 mod run;
 mod steps;
 mod subject;
 
+use common::{setting, Random};
 use document_03::{Monitor, Wrong};
-use random::{setting, Random};
 use run::{Run, Seen};
 use steps::REFUSALS;
 use subject::Subject;
@@ -58,7 +58,7 @@ impl Shape {
     }
 
     fn document(&self, ram: &[u8]) -> Monitor {
-        Monitor::set_up(ram, true, self.n, self.b, self.k).expect("numbers that fit")
+        Monitor::set_up(ram, self.n, self.b, self.k).expect("numbers that fit")
     }
 }
 
@@ -86,7 +86,7 @@ fn possible() -> Seen {
 #[test]
 fn operations() {
     let seed = setting("PAGELEDGER_SEED", 1);
-    let wanted = setting("PAGELEDGER_OPERATIONS", 250_000);
+    let wanted = setting("PAGELEDGER_OPERATIONS", 300_000);
     let random = &mut Random(seed);
     let mut seen = possible();
     let kinds = seen.len();
@@ -102,6 +102,7 @@ fn operations() {
         }
         runs += 1;
     }
+    println!();
     for (name, count) in &seen {
         println!("{count:8} {name}");
     }

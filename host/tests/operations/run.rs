@@ -1,7 +1,7 @@
 //! One run: steps on a subject, each held to document 03 at once.
 use crate::caches::{Caches, Translation};
 use crate::document_03::{Kind, Monitor};
-use crate::random::Random;
+use crate::common::Random;
 use crate::steps::{addresses, get_back, Operation, Steps};
 use crate::subject::{Frame, Subject};
 use pageledger::{Access, Answer};
@@ -12,11 +12,11 @@ pub type Seen = BTreeMap<String, u64>;
 
 pub struct Run<'a, S> {
     pub subject: &'a mut S,
-    document: Monitor,
+    pub document: Monitor,
     caches: Caches,
     random: &'a mut Random,
     pub seen: &'a mut Seen,
-    addresses: Vec<u64>,
+    pub addresses: Vec<u64>,
     /// Operations that must all answer 0.
     plan: VecDeque<Operation>,
     /// The subject's RAM before the step.
@@ -194,8 +194,14 @@ impl<'a, S: Subject> Run<'a, S> {
     fn store(&mut self) -> Result<(), String> {
         let g = 1 + self.random.below(4);
         let places: Vec<_> = self.document.pages().flat_map(|(_, page)| page.places.iter().filter(|(h, _)| *h == g)).collect();
-        let a = if places.is_empty() || self.random.one_in(8) { self.random.pick(&self.addresses) } else { self.random.pick(&places).1 };
-        let ipa = a + self.random.below(4096);
+        let any = self.random.pick(&self.addresses);
+        let a = match self.random.below(32) {
+            0..=3 => any,
+            4 => any | self.random.pick(&[1 << 48, 1 << 63, u64::MAX - 4095]),
+            _ if places.is_empty() => any,
+            _ => self.random.pick(&places).1,
+        };
+        let ipa = a + if self.random.one_in(8) { 4095 - self.random.below(64) } else { self.random.below(4096) };
         let bytes: Vec<u8> = (0..1 + self.random.below(64)).map(|_| self.random.next() as u8).collect();
         let made = self.subject.store(g, ipa, &bytes);
         let result = same(|| "whether a store is made".into(), made, self.document.store(g, ipa, &bytes)).and_then(|()| {

@@ -1,6 +1,6 @@
 //! The operations, and which is asked for next: mostly one that fits what there is, or nearly does, and often enough hostile numbers.
 use crate::document_03::{Kind, Monitor, Page};
-use crate::random::Random;
+use crate::common::Random;
 
 #[derive(Clone, Copy, Debug, PartialEq, Eq)]
 pub enum Operation {
@@ -52,15 +52,17 @@ impl Operation {
     }
 }
 
-/// Addresses of pages whose ways part at each level, and some that are neighbours.
+/// Addresses of pages: few or many whose ways part at each level, and neighbours of one.
 pub fn addresses(random: &mut Random) -> Vec<u64> {
     let end = 1u64 << 48;
-    let mut all = vec![0, 0x1000, 0x1ff000, 0x200000, 0x40000000, 0x80000000, 0x80001000, 1 << 39, 1 << 47, end - 4096];
-    for _ in 0..6 {
-        all.push(random.next() % end & !0xfff);
+    let far = [0, 0x1000, 0x1ff000, 0x200000, 0x3ffff000, 0x40000000, 0x80000000, 1 << 39, 1 << 47, end - 4096];
+    let mut all = Vec::new();
+    for _ in 0..1 + random.below(16) {
+        let anywhere = random.next() % end & !0xfff;
+        all.push(if random.one_in(3) { anywhere } else { random.pick(&far) });
     }
-    let near = random.pick(&all);
-    all.extend((1..8).map(|page| (near + 4096 * page) % end));
+    let near = all[0];
+    all.extend((1..10).map(|page| (near + 4096 * page) % end));
     all
 }
 

@@ -70,7 +70,7 @@ impl Subject for pageledger::Monitor<'_> {
             pageledger::Frame::Table { of } => Frame::Table { of },
             pageledger::Frame::Draining { of } => Frame::Draining { of },
             pageledger::Frame::Page { owner, places } => {
-                let others = |so: fn(Shared) -> bool| (1..=4).filter(|h| *h != owner && so(self.shared_with(f, *h))).collect();
+                let others = |so: fn(Shared) -> bool| (1..=4).filter(|h| so(self.shared_with(f, *h))).collect();
                 Frame::Page { owner, readers: others(|s| s != Shared::Nothing), writers: others(|s| s == Shared::Writing), places }
             }
         }

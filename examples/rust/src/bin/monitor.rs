@@ -8,7 +8,7 @@ fn main() -> Result<(), Refusal> {
     monitor.give(8, 1)?;
     monitor.map(8, 1, 0x80000000, 3)?;
     match monitor.translation(1, 0x80000abc, Access::Write) {
-        Some(Answer::Found { address, fetched }) => println!("0x{address:x} fetched {fetched}"),
+        Answer::Found { address, fetched } => println!("0x{address:x} fetched {fetched}"),
         other => println!("{other:?}"),
     }
     if let Err(refusal) = monitor.take(8, 1) {
