@@ -9,39 +9,35 @@ use super::Machine;
 use super::Outcome;
 use super::Reply;
 use language::Operation;
-use monitor::guests;
-use monitor::mapping;
-use monitor::pages;
-use monitor::sharing;
 
 fn answer(o: Operation, ram: &mut [u8], ledger: &mut [u32]) -> u64
     requires { ⌜ Sound (now ram) (now ledger) ⌝ }
     ensures { λ k. ⌜ Answers (operation o) (now (ram .entry)) (now (ledger .entry)) k (now (ram .exit)) (now (ledger .exit)) ⌝ }
 {
     match o {
-        Operation::Create { guest } => guests::create(ram, ledger, guest),
-        Operation::Give { frame, guest } => pages::give(ram, ledger, frame, guest),
+        Operation::Create { guest } => monitor::create(ram, ledger, guest),
+        Operation::Give { frame, guest } => monitor::give(ram, ledger, frame, guest),
         Operation::Map {
             frame,
             guest,
             address,
             rights,
-        } => mapping::map(ram, ledger, frame, guest, address, rights),
-        Operation::Unmap { address, guest } => mapping::unmap(ram, ledger, address, guest),
+        } => monitor::map(ram, ledger, frame, guest, address, rights),
+        Operation::Unmap { address, guest } => monitor::unmap(ram, ledger, address, guest),
         Operation::Share {
             guest,
             frame,
             other,
             writing,
-        } => sharing::share(ram, ledger, guest, frame, other, writing),
+        } => monitor::share(ram, ledger, guest, frame, other, writing),
         Operation::Unshare {
             guest,
             frame,
             other,
-        } => sharing::unshare(ram, ledger, guest, frame, other),
-        Operation::Take { frame, guest } => pages::take(ram, ledger, frame, guest),
-        Operation::Destroy { guest } => guests::destroy(ram, ledger, guest),
-        Operation::Invalidated { guest } => guests::invalidated(ram, ledger, guest),
+        } => monitor::unshare(ram, ledger, guest, frame, other),
+        Operation::Take { frame, guest } => monitor::take(ram, ledger, frame, guest),
+        Operation::Destroy { guest } => monitor::destroy(ram, ledger, guest),
+        Operation::Invalidated { guest } => monitor::invalidated(ram, ledger, guest),
     }
 }
 
