@@ -6,11 +6,17 @@ use mathlib.Core.List.{List, [], _∷_}
 use native.Mathlib.Numerals.{add-one}
 use native.Mathlib.Omega.{arith}
 use lib.ListN.{length, take, drop}
+use borrow.Author.Tests.{lt-ltb, le-ltb}
+use Rattle.language.specs.declared.arguments.Form.the-variants.{Access, Level}
+use Rattle.language.specs.declared.arguments.Argument.the-variants.{Given, Wrong}
+use Rattle.language.specs.declared.Reason.{Reason}
+use Rattle.language.specs.declared.Reason.the-variants.{AccessExpected, LevelExpected}
 use Rattle.language.specs.declared.verbs.First.{First}
 use Rattle.language.specs.declared.verbs.First.the-variants.{Known, Unknown}
 use Rattle.text.specs.Text.{ascii}
 use Rattle.text.specs.Words.{blank, unblank, wordOf, afterWord, sameText, Ended}
 use Rattle.language.specs.Verbs.{Entry, deeds, verbs, lookup, deedOf, firstOf, wordsOf, placeOf}
+use Rattle.language.specs.Commands.{named, argumentOf}
 
 -- k words of s are passed, up to the place `at`, and none of them is w
 pub record Passed (w s : List ℕ) (n at k : ℕ) : Type 0 where
@@ -47,6 +53,29 @@ found-none {w} {s} {n} {at} {k} p h =
     let m = p .within in
     let z : n - k ≡ 0 = omega arith in
     sym (p .so-far ∙ rw z (omega arith))
+
+-- a name's number
+
+words-length : (n : ℕ) (s : List ℕ) → length (wordsOf n s) ≡ n
+unfolding wordsOf
+words-length zero s = refl
+words-length (suc n) s = ap suc (words-length n (afterWord (unblank s)))
+
+pub named-there : (w s : List ℕ) (n : ℕ) (why : Reason) {k : ℕ} → k ≡ placeOf w (wordsOf n s) → k < n → Given k ≡ named w (wordsOf n s) why
+unfolding named
+named-there w s n why e h = simp (words-length n s, sym e, lt-ltb _ _ h)
+
+pub named-none : (w s : List ℕ) (n : ℕ) (why : Reason) {k : ℕ} → k ≡ placeOf w (wordsOf n s) → n ≤ k → Wrong why ≡ named w (wordsOf n s) why
+unfolding named
+named-none w s n why e h = simp (words-length n s, sym e, le-ltb _ _ h)
+
+pub access-named : (w : List ℕ) → named w (wordsOf 3 (ascii "r w x")) AccessExpected ≡ argumentOf Access w
+unfolding argumentOf wordsOf unblank wordOf afterWord blank
+access-named w = refl
+
+pub level-named : (w : List ℕ) → named w (wordsOf 2 (ascii "el0 el1")) LevelExpected ≡ argumentOf Level w
+unfolding argumentOf wordsOf unblank wordOf afterWord blank
+level-named w = refl
 
 -- what a table has at a place
 abbrev pub chosen : List Entry → ℕ → First → First

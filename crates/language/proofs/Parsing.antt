@@ -19,8 +19,8 @@ use Rattle.language.specs.declared.Reason.the-variants.{TooFewWords, Too
 use Rattle.language.specs.declared.Read.{Read}
 use Rattle.language.specs.declared.Read.the-variants.{Nothing, Asked, Unread}
 use Rattle.text.specs.Words.{unblank, wordOf, afterWord, Ended}
-use Rattle.language.specs.Verbs.{formsOf, shapeOf, nth, commandWith, firstOf}
-use Rattle.language.specs.Commands.{argumentOf, Values, values, failed, joined, valuesOf, valuesFor, readFrom, afterFirst, readIn}
+use Rattle.language.specs.Verbs.{nth, commandWith, firstOf}
+use Rattle.language.specs.Commands.{argumentOf, Values, values, failed, joined, valuesOf, readFrom, afterFirst, readIn}
 
 -- the values p, and then those of the rest
 unfoldable pub before : List ℕ → Values → Values

@@ -1,6 +1,6 @@
 -- The arguments' forms, place by place.
 use Prim.Native.Nat.{ℕ, zero, suc, _+_, _-_, _≤_, _<_}
-use mathlib.Core.Path.{_≡_, refl, sym, ap, _∙_, subst}
+use mathlib.Core.Path.{_≡_, refl, sym, ap, _∙_}
 use mathlib.Core.List.{List, [], _∷_, _++_}
 use native.Mathlib.Omega.{arith}
 use lib.ListN.{length, getD, take, replicate, length-append, length-replicate, getD-replicate, List·getD-append}
@@ -9,28 +9,27 @@ use Rattle.language.specs.declared.verbs.Verb.{Verb}
 use Rattle.language.specs.declared.verbs.Verb.the-variants.{Setup, Word, Peek, Stage2, Walk, Translation, OneFrame, OneGuest, WholeLedger, Monitor}
 use Rattle.language.specs.declared.verbs.Deed.{Deed}
 use Rattle.language.specs.declared.verbs.Deed.the-variants.{Creating, Giving, Mapping, Unmapping, Sharing, Unsharing, Taking, Destroying, Invalidating}
-use Rattle.language.specs.declared.verbs.Shape.{Shape}
 use Rattle.language.specs.declared.arguments.Form.{Form}
 use Rattle.language.specs.declared.arguments.Form.the-variants.{Plain, Access, Level}
-use Rattle.language.specs.Verbs.{shape, formsOf, deedShape, shapeOf}
+use Rattle.language.specs.Verbs.{formsOf, deedNumbers, numbersOf, othersOf}
 
 abbrev others : ℕ → List Form
 others k = take k (Access ∷ Level ∷ [])
 
 -- the numbers, and what follows them
-pub number-at : (a : Shape) (i : ℕ) → i < a .numbers → Plain ≡ getD (formsOf a) i Plain
+pub number-at : (n k : ℕ) (i : ℕ) → i < n → Plain ≡ getD (formsOf n k) i Plain
 unfolding formsOf
-number-at a i h =
-    let l : i < length (replicate (a .numbers) Plain) = omega (arith, length-replicate (a .numbers) Plain) in
-    sym (List·getD-append (replicate (a .numbers) Plain) (others (a .others)) Plain i l ∙ getD-replicate (a .numbers) i Plain Plain h)
+number-at n k i h =
+    let l : i < length (replicate n Plain) = omega (arith, length-replicate n Plain) in
+    sym (List·getD-append (replicate n Plain) (others k) Plain i l ∙ getD-replicate n i Plain Plain h)
 
-other-at : (a : Shape) (j : ℕ) → getD (formsOf a) (a .numbers + j) Plain ≡ getD (others (a .others)) j Plain
+other-at : (n k : ℕ) (j : ℕ) → getD (formsOf n k) (n + j) Plain ≡ getD (others k) j Plain
 unfolding formsOf
-other-at a j = rw length-replicate at (getD-append-add (replicate (a .numbers) Plain) (others (a .others)) j Plain)
+other-at n k j = rw length-replicate at (getD-append-add (replicate n Plain) (others k) j Plain)
 
-forms-length : (a : Shape) → length (formsOf a) ≡ a .numbers + length (others (a .others))
+forms-length : (n k : ℕ) → length (formsOf n k) ≡ n + length (others k)
 unfolding formsOf
-forms-length a = rw (length-append, length-replicate)
+forms-length n k = rw (length-append, length-replicate)
 
 access-first : (k : ℕ) → 0 < length (others k) → Access ≡ getD (others k) 0 Plain
 access-first zero h = absurd (omega arith)
@@ -42,33 +41,33 @@ level-second (suc zero) j h = absurd (omega arith)
 level-second (suc (suc k)) zero h = refl
 level-second (suc (suc k)) (suc j) h = absurd (omega (arith, ap length (take-nil {A = Form} k)))
 
-pub access-at : (a : Shape) (i : ℕ) → i < length (formsOf a) → i ≡ a .numbers → Access ≡ getD (formsOf a) i Plain
-access-at a i h e =
-    let z : i ≡ a .numbers + 0 = omega arith in
-    let l : 0 < length (others (a .others)) = omega (arith, forms-length a) in
-    rw (z, other-at a 0) (access-first (a .others) l)
+pub access-at : (n k : ℕ) (i : ℕ) → i < length (formsOf n k) → i ≡ n → Access ≡ getD (formsOf n k) i Plain
+access-at n k i h e =
+    let z : i ≡ n + 0 = omega arith in
+    let l : 0 < length (others k) = omega (arith, forms-length n k) in
+    rw (z, other-at n k 0) (access-first k l)
 
-pub level-at : (a : Shape) (i : ℕ) → i < length (formsOf a) → a .numbers < i → Level ≡ getD (formsOf a) i Plain
-level-at a i h m =
-    let z : i ≡ a .numbers + suc (i - a .numbers - 1) = omega arith in
-    let l : suc (i - a .numbers - 1) < length (others (a .others)) = omega (arith, forms-length a) in
-    sym (ap (λ (x : ℕ). getD (formsOf a) x Plain) z ∙ other-at a (suc (i - a .numbers - 1)) ∙ sym (level-second (a .others) (i - a .numbers - 1) l))
+pub level-at : (n k : ℕ) (i : ℕ) → i < length (formsOf n k) → n < i → Level ≡ getD (formsOf n k) i Plain
+level-at n k i h m =
+    let z : i ≡ n + suc (i - n - 1) = omega arith in
+    let l : suc (i - n - 1) < length (others k) = omega (arith, forms-length n k) in
+    sym (ap (λ (x : ℕ). getD (formsOf n k) x Plain) z ∙ other-at n k (suc (i - n - 1)) ∙ sym (level-second k (i - n - 1) l))
 
--- r is v's shape: its numbers count v's forms, of which there are five at most
-pub record Fits (v : Verb) (r : Shape) : Type 0 where
-  pub forms : formsOf r ≡ formsOf (shapeOf v)
-  pub counted : r .numbers + r .others ≡ length (formsOf (shapeOf v))
-  pub few : r .numbers + r .others ≤ 5
+-- n and k count v's forms, of which there are five at most
+pub record Fits (v : Verb) (n k : ℕ) : Type 0 where
+  pub forms : formsOf n k ≡ formsOf (numbersOf v) (othersOf v)
+  pub counted : n + k ≡ length (formsOf (numbersOf v) (othersOf v))
+  pub few : n + k ≤ 5
 
-record Fitting (a : Shape) : Type 0 where
-  counted : a .numbers + a .others ≡ length (formsOf a)
-  few : a .numbers + a .others ≤ 5
+record Fitting (n k : ℕ) : Type 0 where
+  counted : n + k ≡ length (formsOf n k)
+  few : n + k ≤ 5
 
-fitting : (n k : ℕ) → length (others k) ≡ k → n + k ≤ 5 → Fitting (shape n k)
-fitting n k e h = record { counted = sym (forms-length (shape n k) ∙ ap (λ (x : ℕ). n + x) e); few = h }
+fitting : (n k : ℕ) → length (others k) ≡ k → n + k ≤ 5 → Fitting n k
+fitting n k e h = record { counted = sym (forms-length n k ∙ ap (λ (x : ℕ). n + x) e); few = h }
 
-deed-fitting : (d : Deed) → Fitting (deedShape d)
-unfolding deedShape
+deed-fitting : (d : Deed) → Fitting (deedNumbers d) 0
+unfolding deedNumbers
 deed-fitting Creating = fitting 1 0 refl (omega arith)
 deed-fitting Giving = fitting 2 0 refl (omega arith)
 deed-fitting Mapping = fitting 4 0 refl (omega arith)
@@ -79,8 +78,8 @@ deed-fitting Taking = fitting 2 0 refl (omega arith)
 deed-fitting Destroying = fitting 1 0 refl (omega arith)
 deed-fitting Invalidating = fitting 1 0 refl (omega arith)
 
-verb-fitting : (v : Verb) → Fitting (shapeOf v)
-unfolding shapeOf
+verb-fitting : (v : Verb) → Fitting (numbersOf v) (othersOf v)
+unfolding numbersOf othersOf
 verb-fitting Setup = fitting 3 0 refl (omega arith)
 verb-fitting Word = fitting 2 0 refl (omega arith)
 verb-fitting Peek = fitting 1 0 refl (omega arith)
@@ -92,6 +91,8 @@ verb-fitting OneGuest = fitting 1 0 refl (omega arith)
 verb-fitting WholeLedger = fitting 0 0 refl (omega arith)
 verb-fitting (Monitor d) = deed-fitting d
 
-pub verb-fits : {v : Verb} {r : Shape} → r ≡ shapeOf v → Fits v r
-verb-fits {v} {r} e =
-    subst (λ (x : Shape). Fits v x) (sym e) (record { forms = refl; counted = verb-fitting v .counted; few = verb-fitting v .few })
+pub verb-fits : {v : Verb} {n k : ℕ} → n ≡ numbersOf v → k ≡ othersOf v → Fits v n k
+verb-fits {v} {n} {k} e f =
+    let c = verb-fitting v .counted in
+    let m = verb-fitting v .few in
+    record { forms = rw (e, f); counted = rw (e, f) c; few = rw (e, f) m }

@@ -2,7 +2,7 @@
 use Prim.Native.Nat.{ℕ}
 use mathlib.Core.Bool.{cond}
 use mathlib.Core.List.{List, [], _∷_}
-use lib.Dec.{leb, eqb}
+use lib.Dec.{ltb, leb, eqb}
 use lib.ListN.{length}
 use Rattle.text.specs.declared.numbers.Numeral.{Numeral}
 use Rattle.text.specs.declared.numbers.Numeral.the-variants.{Value, TooLarge, NoNumber}
@@ -17,9 +17,9 @@ use Rattle.language.specs.declared.Reason.{Reason}
 use Rattle.language.specs.declared.Reason.the-variants.{UnknownCommand, TooFewWords, TooManyWords, NumberExpected, NumberTooLarge, AccessExpected, LevelExpected, NotText, LineTooLong}
 use Rattle.language.specs.declared.Read.{Read}
 use Rattle.language.specs.declared.Read.the-variants.{Nothing, Asked, Unread}
-use Rattle.language.specs.Verbs.{firstOf, formsOf, shapeOf, nth, commandWith}
+use Rattle.language.specs.Verbs.{placeOf, firstOf, numbersOf, othersOf, formsOf, nth, commandWith}
 use Rattle.text.specs.Text.{ascii}
-use Rattle.text.specs.Words.{textOf, textual, unblank, wordOf, afterWord, sameText}
+use Rattle.text.specs.Words.{textOf, textual, unblank, wordOf, afterWord}
 use Rattle.text.specs.Number.{numberOf}
 
 abbrev pub numberArgument : Numeral → Argument
@@ -27,12 +27,14 @@ numberArgument (Value v) = Given v
 numberArgument TooLarge = Wrong NumberTooLarge
 numberArgument NoNumber = Wrong NumberExpected
 
+-- a name's number is its place among the names
+unfoldable pub named : List ℕ → List (List ℕ) → Reason → Argument
+named w names why = cond (ltb (placeOf w names) (length names)) (Given (placeOf w names)) (Wrong why)
+
 unfoldable pub argumentOf : Form → List ℕ → Argument
 argumentOf Plain w = numberArgument (numberOf w)
-argumentOf Access w =
-    cond (sameText w (ascii "r")) (Given 0) (cond (sameText w (ascii "w")) (Given 1) (
-    cond (sameText w (ascii "x")) (Given 2) (Wrong AccessExpected)))
-argumentOf Level w = cond (sameText w (ascii "el0")) (Given 0) (cond (sameText w (ascii "el1")) (Given 1) (Wrong LevelExpected))
+argumentOf Access w = named w (ascii "r" ∷ ascii "w" ∷ ascii "x" ∷ []) AccessExpected
+argumentOf Level w = named w (ascii "el0" ∷ ascii "el1" ∷ []) LevelExpected
 
 -- the values of a line's arguments, or why they can't be read
 pub data Values : Type 0 where
@@ -51,7 +53,7 @@ valuesOf (f ∷ fs) s =
     (joined (argumentOf f (wordOf (unblank s))) (valuesOf fs (afterWord (unblank s))))
 
 abbrev pub valuesFor : Verb → List ℕ → Values
-valuesFor v s = valuesOf (formsOf (shapeOf v)) s
+valuesFor v s = valuesOf (formsOf (numbersOf v) (othersOf v)) s
 
 abbrev pub readFrom : Verb → Values → Read
 readFrom v (values l) = Asked (commandWith v (nth l))

@@ -10,7 +10,6 @@ use Rattle.language.specs.declared.verbs.Deed.{Deed}
 use Rattle.language.specs.declared.verbs.Deed.the-variants.{Creating, Giving, Mapping, Unmapping, Sharing, Unsharing, Taking, Destroying, Invalidating}
 use Rattle.language.specs.declared.verbs.First.{First}
 use Rattle.language.specs.declared.verbs.First.the-variants.{Known, Unknown}
-use Rattle.language.specs.declared.verbs.Shape.{Shape}
 use Rattle.language.specs.declared.arguments.Form.{Form}
 use Rattle.language.specs.declared.arguments.Form.the-variants.{Plain, Access, Level}
 use Rattle.language.specs.declared.Operation.{Operation}
@@ -74,35 +73,45 @@ unfoldable pub placeOf : List ℕ → List (List ℕ) → ℕ
 placeOf w [] = 0
 placeOf w (x ∷ l) = cond (sameText w x) 0 (suc (placeOf w l))
 
--- what follows: n numbers; then, of an access and an exception level, the first k
-abbrev pub shape : ℕ → ℕ → Shape
-shape n k = record { numbers = n; others = k }
+-- what follows: so many numbers
+unfoldable pub deedNumbers : Deed → ℕ
+deedNumbers Creating = 1
+deedNumbers Giving = 2
+deedNumbers Mapping = 4
+deedNumbers Unmapping = 2
+deedNumbers Sharing = 4
+deedNumbers Unsharing = 3
+deedNumbers Taking = 2
+deedNumbers Destroying = 1
+deedNumbers Invalidating = 1
 
-unfoldable pub formsOf : Shape → List Form
-formsOf a = replicate (a .numbers) Plain ++ take (a .others) (Access ∷ Level ∷ [])
+unfoldable pub numbersOf : Verb → ℕ
+numbersOf Setup = 3
+numbersOf Word = 2
+numbersOf Peek = 1
+numbersOf Stage2 = 2
+numbersOf Walk = 3
+numbersOf Translation = 2
+numbersOf OneFrame = 1
+numbersOf OneGuest = 1
+numbersOf WholeLedger = 0
+numbersOf (Monitor d) = deedNumbers d
 
-unfoldable pub deedShape : Deed → Shape
-deedShape Creating = shape 1 0
-deedShape Giving = shape 2 0
-deedShape Mapping = shape 4 0
-deedShape Unmapping = shape 2 0
-deedShape Sharing = shape 4 0
-deedShape Unsharing = shape 3 0
-deedShape Taking = shape 2 0
-deedShape Destroying = shape 1 0
-deedShape Invalidating = shape 1 0
+-- and then, for one stage, a kind of access; for both stages, that and an exception level
+unfoldable pub othersOf : Verb → ℕ
+othersOf Setup = 0
+othersOf Word = 0
+othersOf Peek = 0
+othersOf Stage2 = 1
+othersOf Walk = 2
+othersOf Translation = 1
+othersOf OneFrame = 0
+othersOf OneGuest = 0
+othersOf WholeLedger = 0
+othersOf (Monitor d) = 0
 
-unfoldable pub shapeOf : Verb → Shape
-shapeOf Setup = shape 3 0
-shapeOf Word = shape 2 0
-shapeOf Peek = shape 1 0
-shapeOf Stage2 = shape 2 1
-shapeOf Walk = shape 3 2
-shapeOf Translation = shape 2 1
-shapeOf OneFrame = shape 1 0
-shapeOf OneGuest = shape 1 0
-shapeOf WholeLedger = shape 0 0
-shapeOf (Monitor d) = deedShape d
+unfoldable pub formsOf : ℕ → ℕ → List Form
+formsOf n k = replicate n Plain ++ take k (Access ∷ Level ∷ [])
 
 -- the argument at each place
 abbrev pub nth : List ℕ → ℕ → ℕ

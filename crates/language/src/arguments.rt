@@ -1,18 +1,18 @@
 // The words after the first: numbers, a kind of access, a level.
 ghost use mathlib.Core.Path.{_≡_};
-ghost use Prim.Native.Nat.{_<_};
+ghost use Prim.Native.Nat.{ℕ, _<_};
 ghost use lib.ListN.{length, getD};
-ghost use Rattle.language.specs.Verbs.{formsOf};
-ghost use Rattle.language.specs.Commands.{argumentOf, valuesFor, readFrom};
+ghost use Rattle.language.specs.Verbs.{wordsOf, formsOf};
+ghost use Rattle.language.specs.Commands.{named, argumentOf, valuesFor, readFrom};
 use crate::Read;
 use crate::Reason;
-use crate::verbs::Shape;
 use crate::verbs::Verb;
 use crate::verbs::made;
-use crate::verbs::shape_of;
+use crate::verbs::numbers_of;
+use crate::verbs::others_of;
+use crate::verbs::place;
 use text::numbers::Numeral;
 use text::numbers::number;
-use text::words::same;
 use text::words::word_end;
 use text::words::word_start;
 
@@ -23,14 +23,14 @@ pub enum Form {
     Level,
 }
 
-fn form_of(a: Shape, i: usize) -> Form
-    requires { ⌜ i < length (formsOf a) ⌝ }
-    ensures { λ r. ⌜ r ≡ getD (formsOf a) i Form.Plain ⌝ }
+// The form of argument i, of which the first ones are numbers.
+fn form_of(numbers: usize, i: usize) -> Form
+    ensures { λ r. ⌜ ((k : ℕ) → i < length (formsOf numbers k) → r ≡ getD (formsOf numbers k) i Form.Plain) ⌝ }
 {
-    if i < a.numbers {
+    if i < numbers {
         return Form::Plain;
     }
-    if i == a.numbers {
+    if i == numbers {
         return Form::Access;
     }
     Form::Level
@@ -42,31 +42,15 @@ pub enum Argument {
     Wrong(Reason),
 }
 
-fn access_argument(s: &[u8]) -> Argument
-    ensures { λ r. ⌜ r ≡ argumentOf Form.Access (now (s .entry)) ⌝ }
+// A word that is one of the first n of `names`: its place there.
+fn name_argument(w: &[u8], names: &[u8], n: usize, why: Reason) -> Argument
+    ensures { λ r. ⌜ r ≡ named (now (w .entry)) (wordsOf n (now (names .entry))) why ⌝ }
 {
-    if same(s, b"r") {
-        return Argument::Given(0);
+    let k = place(w, names, n);
+    if k < n {
+        return Argument::Given(k as u64);
     }
-    if same(s, b"w") {
-        return Argument::Given(1);
-    }
-    if same(s, b"x") {
-        return Argument::Given(2);
-    }
-    Argument::Wrong(Reason::AccessExpected)
-}
-
-fn level_argument(s: &[u8]) -> Argument
-    ensures { λ r. ⌜ r ≡ argumentOf Form.Level (now (s .entry)) ⌝ }
-{
-    if same(s, b"el0") {
-        return Argument::Given(0);
-    }
-    if same(s, b"el1") {
-        return Argument::Given(1);
-    }
-    Argument::Wrong(Reason::LevelExpected)
+    Argument::Wrong(why)
 }
 
 fn number_argument(s: &[u8]) -> Argument
@@ -84,8 +68,8 @@ fn read_argument(f: Form, s: &[u8]) -> Argument
 {
     match f {
         Form::Plain => number_argument(s),
-        Form::Access => access_argument(s),
-        Form::Level => level_argument(s),
+        Form::Access => name_argument(s, b"r w x", 3, Reason::AccessExpected),
+        Form::Level => name_argument(s, b"el0 el1", 2, Reason::LevelExpected),
     }
 }
 
@@ -93,8 +77,8 @@ fn read_argument(f: Form, s: &[u8]) -> Argument
 pub fn arguments(v: Verb, s: &[u8]) -> Read
     ensures { λ r. ⌜ r ≡ readFrom v (valuesFor v (now (s .entry))) ⌝ }
 {
-    let shape = shape_of(v);
-    let n = shape.numbers + shape.others;
+    let numbers = numbers_of(v);
+    let n = numbers + others_of(v);
     let mut a = [0u64; 5];
     let mut at = 0;
     let mut i = 0;
@@ -104,7 +88,7 @@ pub fn arguments(v: Verb, s: &[u8]) -> Read
             return Read::Unread(Reason::TooFewWords);
         }
         at = word_end(s, from);
-        match read_argument(form_of(shape, i), &s[from..at]) {
+        match read_argument(form_of(numbers, i), &s[from..at]) {
             Argument::Given(x) => a[i] = x,
             Argument::Wrong(r) => return Read::Unread(r),
         }

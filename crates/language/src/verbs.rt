@@ -1,6 +1,6 @@
 // A line's first word: which command it asks for, what arguments follow, and the command that they make.
 ghost use mathlib.Core.Path.{_≡_};
-ghost use Rattle.language.specs.Verbs.{wordsOf, placeOf, deedOf, firstOf, deedShape, shapeOf, nth, operationWith, commandWith};
+ghost use Rattle.language.specs.Verbs.{wordsOf, placeOf, deedOf, firstOf, deedNumbers, numbersOf, othersOf, nth, operationWith, commandWith};
 use crate::Command;
 use crate::Operation;
 use text::words::same;
@@ -40,7 +40,7 @@ pub enum First {
 }
 
 // Which of the first n words of `names` is w; n where none is.
-fn place(w: &[u8], names: &[u8], n: usize) -> usize
+pub fn place(w: &[u8], names: &[u8], n: usize) -> usize
     ensures { λ r. ⌜ r ≡ placeOf (now (w .entry)) (wordsOf n (now (names .entry))) ⌝ }
 {
     let mut at = 0;
@@ -100,16 +100,11 @@ pub fn first_word(w: &[u8]) -> First
     }
 }
 
-// A command's arguments: first so many numbers, then of a kind of access and a level the first `others`.
-pub struct Shape {
-    pub numbers: usize,
-    pub others: usize,
-}
-
-fn deed_shape(d: Deed) -> Shape
-    ensures { λ r. ⌜ r ≡ deedShape d ⌝ }
+// How many numbers follow.
+fn deed_numbers(d: Deed) -> usize
+    ensures { λ r. ⌜ r ≡ deedNumbers d ⌝ }
 {
-    let numbers = match d {
+    match d {
         Deed::Creating => 1,
         Deed::Giving => 2,
         Deed::Mapping => 4,
@@ -119,51 +114,41 @@ fn deed_shape(d: Deed) -> Shape
         Deed::Taking => 2,
         Deed::Destroying => 1,
         Deed::Invalidating => 1,
-    };
-    Shape { numbers, others: 0 }
+    }
 }
 
-pub fn shape_of(v: Verb) -> Shape
-    ensures { λ r. ⌜ r ≡ shapeOf v ⌝ }
+pub fn numbers_of(v: Verb) -> usize
+    ensures { λ r. ⌜ r ≡ numbersOf v ⌝ }
 {
     match v {
-        Verb::Setup => Shape {
-            numbers: 3,
-            others: 0,
-        },
-        Verb::Word => Shape {
-            numbers: 2,
-            others: 0,
-        },
-        Verb::Peek => Shape {
-            numbers: 1,
-            others: 0,
-        },
-        Verb::Stage2 => Shape {
-            numbers: 2,
-            others: 1,
-        },
-        Verb::Walk => Shape {
-            numbers: 3,
-            others: 2,
-        },
-        Verb::Translation => Shape {
-            numbers: 2,
-            others: 1,
-        },
-        Verb::OneFrame => Shape {
-            numbers: 1,
-            others: 0,
-        },
-        Verb::OneGuest => Shape {
-            numbers: 1,
-            others: 0,
-        },
-        Verb::WholeLedger => Shape {
-            numbers: 0,
-            others: 0,
-        },
-        Verb::Monitor(d) => deed_shape(d),
+        Verb::Setup => 3,
+        Verb::Word => 2,
+        Verb::Peek => 1,
+        Verb::Stage2 => 2,
+        Verb::Walk => 3,
+        Verb::Translation => 2,
+        Verb::OneFrame => 1,
+        Verb::OneGuest => 1,
+        Verb::WholeLedger => 0,
+        Verb::Monitor(d) => deed_numbers(d),
+    }
+}
+
+// How many of a kind of access and a level follow the numbers.
+pub fn others_of(v: Verb) -> usize
+    ensures { λ r. ⌜ r ≡ othersOf v ⌝ }
+{
+    match v {
+        Verb::Setup => 0,
+        Verb::Word => 0,
+        Verb::Peek => 0,
+        Verb::Stage2 => 1,
+        Verb::Walk => 2,
+        Verb::Translation => 1,
+        Verb::OneFrame => 0,
+        Verb::OneGuest => 0,
+        Verb::WholeLedger => 0,
+        Verb::Monitor(_) => 0,
     }
 }
 

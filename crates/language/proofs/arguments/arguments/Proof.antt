@@ -3,7 +3,7 @@
 use Prim.Native.Nat.{_-_}
 use mathlib.Core.Path.{ap, _∙_}
 use Rattle.language.specs.declared.Read.the-variants.{Asked}
-use Rattle.language.specs.Verbs.{formsOf, shapeOf}
+use Rattle.language.specs.Verbs.{formsOf, numbersOf, othersOf}
 use Rattle.language.proofs.Shapes.{verb-fits}
 use Rattle.language.proofs.Parsing.{Reading, reading-none, reading-more, too-few, too-many, wrong-word, all-read}
 use borrow.Author.Needs.{needs}
@@ -12,16 +12,19 @@ use Rattle.language.proofs.arguments.arguments.Statement.{statement}
 use Rattle.language.proofs.arguments.arguments.Tie as tie
 
 abbrev Inv-loop : tie.InvT-loop
-Inv-loop v s shape n a₀ at₀ i₀ a at i = Reading (formsOf (shapeOf v)) s a at i
+Inv-loop v s numbers n a₀ at₀ i₀ a at i = Reading (formsOf (numbersOf v) (othersOf v)) s a at i
 
 abbrev μ-loop : tie.MeasureT-loop
-μ-loop v s shape n a₀ at₀ i₀ a at i = n - i
+μ-loop v s numbers n a₀ at₀ i₀ a at i = n - i
 
-shape-of-requires : tie.Need-shape-of-requires Inv-loop μ-loop
-shape-of-requires c κs = search needs
+numbers-of-requires : tie.Need-numbers-of-requires Inv-loop μ-loop
+numbers-of-requires c κs = search needs
+
+others-of-requires : tie.Need-others-of-requires Inv-loop μ-loop
+others-of-requires c κs = search needs
 
 add-n : tie.Need-add-n Inv-loop μ-loop
-add-n c = omega (arith, (verb-fits (c .before .shape-of .ensures)) .few)
+add-n c = omega (arith, (verb-fits (c .before .numbers-of .ensures) (c .others-of .ensures)) .few)
 
 loop-holds : tie.Need-loop-holds Inv-loop μ-loop
 loop-holds c = reading-none _ _
@@ -30,13 +33,13 @@ word-start-requires : tie.Need-word-start-requires Inv-loop μ-loop
 word-start-requires c κs = c .before .loop .inv .inside
 
 returns : tie.Need-returns Inv-loop μ-loop
-returns c = too-few (c .before .before .before .before .before .before .before .args .v) (c .before .before .before .loop .inv) (omega (arith, (verb-fits (c .before .before .before .before .before .shape-of .ensures)) .counted)) (c .if1 .taken) (c .before .word-start .ensures .1)
+returns c = too-few (c .before .before .before .before .before .before .before .args .v) (c .before .before .before .loop .inv) (omega (arith, (verb-fits (c .before .before .before .before .before .numbers-of .ensures) (c .before .before .before .before .others-of .ensures)) .counted)) (c .if1 .taken) (c .before .word-start .ensures .1)
 
 word-end-requires : tie.Need-word-end-requires Inv-loop μ-loop
 word-end-requires c κs = c .before .word-start .ensures .0
 
 form-of-requires : tie.Need-form-of-requires Inv-loop μ-loop
-form-of-requires c κs = rw ((verb-fits (c .before .before .before .before .before .before .shape-of .ensures)) .forms) (omega (arith, (verb-fits (c .before .before .before .before .before .before .shape-of .ensures)) .counted))
+form-of-requires c κs = search needs
 
 sub-read-argument : tie.Need-sub-read-argument Inv-loop μ-loop
 sub-read-argument c = omega (arith, c .before .word-end .ensures .later)
@@ -54,27 +57,27 @@ enum-known-x : tie.Need-enum-known-x Inv-loop μ-loop
 enum-known-x c = search needs
 
 mul-a : tie.Need-mul-a Inv-loop μ-loop
-mul-a c = omega (arith, (verb-fits (c .before .before .before .before .before .before .before .before .before .before .before .before .shape-of .ensures)) .few)
+mul-a c = omega (arith, (verb-fits (c .before .before .before .before .before .before .before .before .before .before .before .before .numbers-of .ensures) (c .before .before .before .before .before .before .before .before .before .before .before .others-of .ensures)) .few)
 
 array-write-a : tie.Need-array-write-a Inv-loop μ-loop
-array-write-a c = omega (arith, (verb-fits (c .before .before .before .before .before .before .before .before .before .before .before .before .shape-of .ensures)) .few, c .before .before .before .before .before .before .before .before .before .before .loop .inv .room)
+array-write-a c = omega (arith, (verb-fits (c .before .before .before .before .before .before .before .before .before .before .before .before .numbers-of .ensures) (c .before .before .before .before .before .before .before .before .before .before .before .others-of .ensures)) .few, c .before .before .before .before .before .before .before .before .before .before .loop .inv .room)
 
 enum-known-r : tie.Need-enum-known-r Inv-loop μ-loop
 enum-known-r c = search needs
 
 returns-2 : tie.Need-returns-2 Inv-loop μ-loop
-returns-2 c = wrong-word (c .before .before .before .before .before .before .before .before .before .before .before .before .before .before .args .v) (c .before .before .before .before .before .before .before .before .before .before .loop .inv) (omega (arith, (verb-fits (c .before .before .before .before .before .before .before .before .before .before .before .before .shape-of .ensures)) .counted)) (c .before .before .before .before .before .before .before .before .word-start .ensures .0) (c .before .before .before .before .before .before .before .if1 .left) (c .before .before .before .before .before .before .before .before .word-start .ensures .1)
-    (c .before .before .before .before .before .before .word-end .ensures) ((c .before .before .before .read-argument .ensures ∙ rw (c .before .before .before .before .before .form-of .ensures, (verb-fits (c .before .before .before .before .before .before .before .before .before .before .before .before .shape-of .ensures)) .forms))) (c .before .r .given .1)
+returns-2 c = wrong-word (c .before .before .before .before .before .before .before .before .before .before .before .before .before .before .args .v) (c .before .before .before .before .before .before .before .before .before .before .loop .inv) (omega (arith, (verb-fits (c .before .before .before .before .before .before .before .before .before .before .before .before .numbers-of .ensures) (c .before .before .before .before .before .before .before .before .before .before .before .others-of .ensures)) .counted)) (c .before .before .before .before .before .before .before .before .word-start .ensures .0) (c .before .before .before .before .before .before .before .if1 .left) (c .before .before .before .before .before .before .before .before .word-start .ensures .1)
+    (c .before .before .before .before .before .before .word-end .ensures) ((c .before .before .before .read-argument .ensures ∙ rw (c .before .before .before .before .before .form-of .ensures (c .before .before .before .before .before .before .before .before .before .before .before .others-of .result) (rw ((verb-fits (c .before .before .before .before .before .before .before .before .before .before .before .before .numbers-of .ensures) (c .before .before .before .before .before .before .before .before .before .before .before .others-of .ensures)) .forms) (omega (arith, (verb-fits (c .before .before .before .before .before .before .before .before .before .before .before .before .numbers-of .ensures) (c .before .before .before .before .before .before .before .before .before .before .before .others-of .ensures)) .counted))), (verb-fits (c .before .before .before .before .before .before .before .before .before .before .before .before .numbers-of .ensures) (c .before .before .before .before .before .before .before .before .before .before .before .others-of .ensures)) .forms))) (c .before .r .given .1)
 
 add-i : tie.Need-add-i Inv-loop μ-loop
-add-i c = omega (arith, (verb-fits (c .before .before .before .before .before .before .before .before .before .before .before .before .shape-of .ensures)) .few)
+add-i c = omega (arith, (verb-fits (c .before .before .before .before .before .before .before .before .before .before .before .before .numbers-of .ensures) (c .before .before .before .before .before .before .before .before .before .before .before .others-of .ensures)) .few)
 
 loop-less : tie.Need-loop-less Inv-loop μ-loop
 loop-less c = search needs
 
 loop-again : tie.Need-loop-again Inv-loop μ-loop
-loop-again c = reading-more (c .before .before .before .before .before .before .before .before .before .before .loop .inv) (omega (arith, (verb-fits (c .before .before .before .before .before .before .before .before .before .before .before .before .shape-of .ensures)) .counted)) (omega (arith, (verb-fits (c .before .before .before .before .before .before .before .before .before .before .before .before .shape-of .ensures)) .few)) (c .before .before .before .before .before .before .before .before .word-start .ensures .0) (c .before .before .before .before .before .before .before .if1 .left)
-    (c .before .before .before .before .before .before .before .before .word-start .ensures .1) (c .before .before .before .before .before .before .word-end .ensures) ((c .before .before .before .read-argument .ensures ∙ rw (c .before .before .before .before .before .form-of .ensures, (verb-fits (c .before .before .before .before .before .before .before .before .before .before .before .before .shape-of .ensures)) .forms))) (c .before .x .given .1)
+loop-again c = reading-more (c .before .before .before .before .before .before .before .before .before .before .loop .inv) (omega (arith, (verb-fits (c .before .before .before .before .before .before .before .before .before .before .before .before .numbers-of .ensures) (c .before .before .before .before .before .before .before .before .before .before .before .others-of .ensures)) .counted)) (omega (arith, (verb-fits (c .before .before .before .before .before .before .before .before .before .before .before .before .numbers-of .ensures) (c .before .before .before .before .before .before .before .before .before .before .before .others-of .ensures)) .few)) (c .before .before .before .before .before .before .before .before .word-start .ensures .0) (c .before .before .before .before .before .before .before .if1 .left)
+    (c .before .before .before .before .before .before .before .before .word-start .ensures .1) (c .before .before .before .before .before .before .word-end .ensures) ((c .before .before .before .read-argument .ensures ∙ rw (c .before .before .before .before .before .form-of .ensures (c .before .before .before .before .before .before .before .before .before .before .before .others-of .result) (rw ((verb-fits (c .before .before .before .before .before .before .before .before .before .before .before .before .numbers-of .ensures) (c .before .before .before .before .before .before .before .before .before .before .before .others-of .ensures)) .forms) (omega (arith, (verb-fits (c .before .before .before .before .before .before .before .before .before .before .before .before .numbers-of .ensures) (c .before .before .before .before .before .before .before .before .before .before .before .others-of .ensures)) .counted))), (verb-fits (c .before .before .before .before .before .before .before .before .before .before .before .before .numbers-of .ensures) (c .before .before .before .before .before .before .before .before .before .before .before .others-of .ensures)) .forms))) (c .before .x .given .1)
 
 word-start-requires-2 : tie.Need-word-start-requires-2 Inv-loop μ-loop
 word-start-requires-2 c κs = c .before .loop .inv .inside
@@ -84,10 +87,10 @@ made-requires c κs = search needs
 
 returns-3 : tie.Need-returns-3 Inv-loop μ-loop
 returns-3 c = ap Asked (c .made .ensures)
-    ∙ all-read (c .before .before .before .before .before .before .before .before .args .v) (c .before .before .before .before .loop .inv) (omega (arith, (verb-fits (c .before .before .before .before .before .before .shape-of .ensures)) .counted)) (c .before .if2 .taken) (c .before .before .word-start2 .ensures .1)
+    ∙ all-read (c .before .before .before .before .before .before .before .before .args .v) (c .before .before .before .before .loop .inv) (omega (arith, (verb-fits (c .before .before .before .before .before .before .numbers-of .ensures) (c .before .before .before .before .before .others-of .ensures)) .counted)) (c .before .if2 .taken) (c .before .before .word-start2 .ensures .1)
 
 returns-4 : tie.Need-returns-4 Inv-loop μ-loop
-returns-4 c = too-many (c .before .before .before .before .before .before .before .args .v) (c .before .before .before .loop .inv) (omega (arith, (verb-fits (c .before .before .before .before .before .shape-of .ensures)) .counted)) (c .before .word-start2 .ensures .0) (c .if2 .left) (c .before .word-start2 .ensures .1)
+returns-4 c = too-many (c .before .before .before .before .before .before .before .args .v) (c .before .before .before .loop .inv) (omega (arith, (verb-fits (c .before .before .before .before .before .numbers-of .ensures) (c .before .before .before .before .others-of .ensures)) .counted)) (c .before .word-start2 .ensures .0) (c .if2 .left) (c .before .word-start2 .ensures .1)
 
 pub arguments-spec : {M : Type 1} → statement M
 arguments-spec =
@@ -95,7 +98,8 @@ arguments-spec =
     (tie.spec
     Inv-loop
     μ-loop
-    shape-of-requires
+    numbers-of-requires
+    others-of-requires
     add-n
     loop-holds
     word-start-requires

@@ -1,7 +1,8 @@
 -- Written by tools/prove from the file answers beside it: edit that, and not this.
--- Each form has its own function.
+-- By the form.
+use mathlib.Core.Path.{_∙_, sym}
+use Rattle.language.proofs.Names.{access-named, level-named}
 use borrow.Author.Needs.{needs}
-use mathlib.Core.Path.{sym}
 use Rattle.language.proofs.arguments.read_argument.Statement.{statement}
 use Rattle.language.proofs.arguments.read_argument.Tie as tie
 
@@ -14,14 +15,20 @@ number-argument-requires c κs = search needs
 enum-told-2 : tie.Need-enum-told-2
 enum-told-2 c = search needs
 
-access-argument-requires : tie.Need-access-argument-requires
-access-argument-requires c κs = search needs
+slice-aggregate-name-argument : tie.Need-slice-aggregate-name-argument
+slice-aggregate-name-argument c = search needs
+
+name-argument-requires : tie.Need-name-argument-requires
+name-argument-requires c κs = search needs
 
 enum-told-3 : tie.Need-enum-told-3
 enum-told-3 c = search needs
 
-level-argument-requires : tie.Need-level-argument-requires
-level-argument-requires c κs = search needs
+slice-aggregate-name-argument-2 : tie.Need-slice-aggregate-name-argument-2
+slice-aggregate-name-argument-2 c = search needs
+
+name-argument-requires-2 : tie.Need-name-argument-requires-2
+name-argument-requires-2 c κs = search needs
 
 returns : tie.Need-returns
 returns c = simp (
@@ -30,16 +37,10 @@ returns c = simp (
 )
 
 returns-2 : tie.Need-returns-2
-returns-2 c = simp (
-  c .before .enum-told2 .given .1,
-  sym (c .access-argument .ensures),
-)
+returns-2 c = rw (c .before .before .enum-told2 .given .1) (c .name-argument .ensures ∙ access-named (c .before .before .before .before .before .args .s .now))
 
 returns-3 : tie.Need-returns-3
-returns-3 c = simp (
-  c .before .enum-told3 .given .1,
-  sym (c .level-argument .ensures),
-)
+returns-3 c = rw (c .before .before .enum-told3 .given .1) (c .name-argument2 .ensures ∙ level-named (c .before .before .before .before .before .args .s .now))
 
 pub read-argument-spec : {M : Type 1} → statement M
 read-argument-spec =
@@ -48,9 +49,11 @@ read-argument-spec =
     enum-told
     number-argument-requires
     enum-told-2
-    access-argument-requires
+    slice-aggregate-name-argument
+    name-argument-requires
     enum-told-3
-    level-argument-requires
+    slice-aggregate-name-argument-2
+    name-argument-requires-2
     returns
     returns-2
     returns-3)
