@@ -68,6 +68,8 @@ def main():
                 count.check(f"examples/{name}.c as {standard}", run(command) or run([program], expected))
         for folder, triple, helpers in (("aarch64-linux", "aarch64-unknown-linux-gnu", ["memset"]), ("aarch64-none-elf", "aarch64-none-elf", [])):
             count.check(f"a program for {folder}", linked_alone(folder, triple, helpers, work))
+        command = ["cc", "-std=c11", "-O2", "-fno-builtin", *STRICT, "tests/memory.c", "-o", f"{work}/memory"]
+        count.check("support/memory.c beside the C library's", run(command) or run([f"{work}/memory"], "23960 of 23960 agree\n"))
     cargo = {"CARGO_TARGET_DIR": str(HERE / "target/host"), "CARGO_NET_OFFLINE": "true"}
     for name, expected in EXAMPLES.items():
         command = ["cargo", "run", "--quiet", "--manifest-path", "examples/rust/Cargo.toml", "--bin", name]

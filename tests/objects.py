@@ -170,6 +170,8 @@ def check_archive(count, folder, machine, functions):
         defined = set().union(*(o.defined for o in objects))
         say("has all that it wants", listed(set().union(*(o.wanted for o in objects)) - defined))
         say("its helpers are these three alone", listed(set().union(*(o.defined for o in helpers)) ^ HELPERS))
+        clears = [w for o in helpers for w in o.functions["memset"].words] if helpers else []
+        say("clears by 64-bit stores", None if any(one_register(w) and one_register(w)[:2] == (8, False) for w in clears) else "it does not")
         say("uses no vector register", "it does" if any(uses_vectors(w) for o in objects for w in o.instructions()) else None)
     else:
         say("has no helpers", listed(o.name for o in helpers))
