@@ -16,6 +16,8 @@ PEEK = b"peek 0x40000000"  # of RAM that is all zero
 ZERO = "0x0000000000000000\n"
 LONG, TEXT = "error: line too long\n", "error: not text\n"
 EXPECTED, LARGE = "error: number expected\n", "error: number too large\n"
+FREE = "".join(f"{f} free\n" for f in range(16))
+MONITORS = "".join(f"{f} monitor\n" for f in range(1023))
 NO_TEXT = [byte for byte in range(256) if not 32 <= byte < 127 and byte not in b"\t\n"]
 
 CASES = {
@@ -53,6 +55,12 @@ CASES = {
     "0x and 4,000 digits": (b"peek 0x" + b"f" * 4000, LARGE),
     "an access of 4,000 letters": (b"stage2 0 0 " + b"r" * 4000, "error: access is r, w or x\n"),
     "2,000 words": (b"peek " + b"0 " * 2000, "error: too many words\n"),
+    "ledger and 2,000 words": (b"ledger" + b" 0" * 2000, "error: too many words\n"),
+    # the ledger: the only command that prints more than a line
+    "the ledger, with no last newline": (SETUP + b"ledger", "0\n" + FREE),
+    "a thousand ledgers": (SETUP + b"ledger\n" * 1000, "0\n" + FREE * 1000),
+    "the ledger of 1,024 frames": (b"setup 1024 0 1023\nledger\n", "0\n" + MONITORS + "1023 free\n"),
+    "100,000 operations": (SETUP + b"create 5\ninvalidated 1\n" * 50000, "0\n" + "1\n0\n" * 50000),
     # bytes that are no text
     "each such byte alone": (b"".join(b"%c\n" % byte for byte in NO_TEXT if byte != 13), TEXT * (len(NO_TEXT) - 1)),
     "each in a word": (b"".join(b"pe%cek 0\n" % byte for byte in NO_TEXT), TEXT * len(NO_TEXT)),

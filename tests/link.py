@@ -1,7 +1,7 @@
 #!/usr/bin/env python3
 """link.py: the header is clean C and C++, the examples link the library and print what they should, programs for Arm link it with
-nothing beside it, and the Rust crate agrees with a second implementation of document 01. Wants the kit, cc, c++ and cargo, and
-out/ as ./build writes it."""
+nothing beside it, and the Rust crate agrees with a second implementation of documents 01 and 03. Wants the kit, cc, c++ and cargo,
+and out/ as ./build writes it."""
 
 import os
 import pathlib
@@ -13,7 +13,10 @@ import tempfile
 import tally
 
 HERE = pathlib.Path(__file__).resolve().parent.parent
-EXPECTED = "0x40001abc fetched 4\n"
+# The examples, in C and in Rust, and what each prints.
+EXAMPLES = {"walk": "0x40001abc fetched 4\n", "monitor": "0x40008abc fetched 4\ntake answers 13\n"}
+HOST_TESTS = {"walks", "sizes", "worked_image", "operations", "wrong_answers", "cases::section_5", "cases::runs_out", "cases::set_up",
+              "cases::questions"}
 STRICT = ["-Wall", "-Wextra", "-pedantic", "-Werror"]
 
 
@@ -33,18 +36,20 @@ def run(command, expected=None, **environment):
     return None
 
 
-def linked_alone(folder, triple, work):
-    """Links a program for Arm that has the address of each function, with the kit's linker and no other library."""
+def linked_alone(folder, triple, helpers, work):
+    """Links a program for Arm that has the address of each function, with the kit's linker and no other library. Of a C library the
+    program has these helpers alone."""
     if problem := run(["rt", "doc"]):
         return problem
     tools = pathlib.Path(run.printed.strip()).parent.parent / "on" / platform.machine() / "toolchain/bin"
     names = sorted(set(re.findall(r"^\w+ (pageledger_\w+)\(", (HERE / "out/include/pageledger.h").read_text(), re.M)))
     source, program = pathlib.Path(work, "alone.c"), f"{work}/alone-{folder}"
-    source.write_text("".join(f"extern char {n}[];\n" for n in names) + "char *_start[] = {" + ", ".join(names) + "};\n")
+    source.write_text("".join(f"extern char {n}[];\n" for n in names) + "char *_start[] = {" + ", ".join(names) + "};\n"
+                      + "".join(f"char {n}[1];\n" for n in helpers))
     if not names:
         return "the header has no functions"
     library = HERE / "out" / folder / "libpageledger.a"
-    return (run([tools / "clang", f"--target={triple}", "-c", source, "-o", f"{program}.o"])
+    return (run([tools / "clang", f"--target={triple}", "-fno-builtin", "-c", source, "-o", f"{program}.o"])
             or run([tools / "ld.lld", f"{program}.o", library, "-o", program]))
 
 
@@ -56,22 +61,24 @@ def main():
         count.check(f"the header as {standard}", run(command))
     with tempfile.TemporaryDirectory() as work:
         for compiler, language, standard in (("cc", "c", "c99"), ("c++", "c++", "c++11")):
-            program = f"{work}/walk-{standard}"
-            command = [compiler, "-x", language, f"-std={standard}", *STRICT, "-Iout/include", "examples/walk.c",
-                       "-x", "none", library, "-o", program]
-            count.check(f"examples/walk.c as {standard}", run(command) or run([program], EXPECTED))
-        for folder, triple in (("aarch64-linux", "aarch64-unknown-linux-gnu"), ("aarch64-none-elf", "aarch64-none-elf")):
-            count.check(f"a program for {folder}", linked_alone(folder, triple, work))
+            for name, expected in EXAMPLES.items():
+                program = f"{work}/{name}-{standard}"
+                command = [compiler, "-x", language, f"-std={standard}", *STRICT, "-Iout/include", f"examples/{name}.c",
+                           "-x", "none", library, "-o", program]
+                count.check(f"examples/{name}.c as {standard}", run(command) or run([program], expected))
+        for folder, triple, helpers in (("aarch64-linux", "aarch64-unknown-linux-gnu", ["memset"]), ("aarch64-none-elf", "aarch64-none-elf", [])):
+            count.check(f"a program for {folder}", linked_alone(folder, triple, helpers, work))
     cargo = {"CARGO_TARGET_DIR": str(HERE / "target/host"), "CARGO_NET_OFFLINE": "true"}
-    command = ["cargo", "run", "--quiet", "--manifest-path", "examples/rust/Cargo.toml"]
-    count.check("examples/rust", run(command, EXPECTED, **cargo))
+    for name, expected in EXAMPLES.items():
+        command = ["cargo", "run", "--quiet", "--manifest-path", "examples/rust/Cargo.toml", "--bin", name]
+        count.check(f"examples/rust, {name}", run(command, expected, **cargo))
     command = ["cargo", "test", "--manifest-path", "host/Cargo.toml", "--", "--nocapture", "--test-threads=1"]
     problem = run(command, **cargo)
     for line in run.printed.splitlines():
-        if re.match(r" *\d+ (both|stage)|seed ", line):
+        if re.match(r" *\d+ [a-z]|seed ", line):
             print(line)
-    ran = re.findall(r"^test (\w+) \.\.\.", run.printed, re.M)
-    count.check("host/ builds, and its three tests run", problem or (None if {"sizes", "walks", "worked_image"} <= set(ran) else f"ran {ran}"))
+    ran = set(re.findall(r"^test ([\w:]+) \.\.\.", run.printed, re.M))
+    count.check("host/ builds, and its tests run", problem or (None if HOST_TESTS <= ran else f"ran {sorted(ran)}"))
     count.finish()
 
 

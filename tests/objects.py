@@ -14,8 +14,15 @@ HELPERS = {"memset", "memcpy", "memmove"}
 X86_64, AARCH64 = 62, 183
 
 
+class Function:
+    """A function's instructions, and by their places the names of the functions that it calls."""
+
+    def __init__(self, words, calls):
+        self.words, self.calls = words, calls
+
+
 class Object:
-    """A relocatable ELF object of 64 bits, lowest byte first: its machine, its symbols and its code."""
+    """A relocatable ELF object of 64 bits, lowest byte first: its machine, its symbols and its functions."""
 
     def __init__(self, name, data):
         if data[:6] != b"\x7fELF\x02\x01":
@@ -26,22 +33,28 @@ class Object:
         (count,) = struct.unpack_from("<H", data, 60)
         # name, type, flags, address, offset, size, link, info, alignment, size of an entry
         sections = [struct.unpack_from("<IIQQQQIIQQ", data, start + 64 * i) for i in range(count)]
-        self.code = b"".join(data[s[4]:s[4] + s[5]] for s in sections if s[1] == 1 and s[2] & 4)
-        self.defined, self.wanted = set(), set()
+        table = next(s for s in sections if s[1] == 2)
+        texts = sections[table[6]][4]
+        symbols = []
+        for at in range(table[4], table[4] + table[5], 24):
+            where, info, _, section, value, size = struct.unpack_from("<IBBHQQ", data, at)
+            symbols.append((data[texts + where:data.index(b"\0", texts + where)].decode(), info, section, value, size))
+        self.defined = {symbol for symbol, info, section, _, _ in symbols if info >> 4 and section}
+        self.wanted = {symbol for symbol, info, section, _, _ in symbols if info >> 4 and not section}
+        moved = {}
         for s in sections:
-            if s[1] != 2:
-                continue
-            texts = sections[s[6]][4]
-            for at in range(s[4] + 24, s[4] + s[5], 24):
-                where, info, _, section = struct.unpack_from("<IBBH", data, at)
-                symbol = data[texts + where:data.index(b"\0", texts + where)].decode()
-                if info >> 4 and section:
-                    self.defined.add(symbol)
-                elif info >> 4:
-                    self.wanted.add(symbol)
+            for at in range(s[4], s[4] + s[5], 24) if s[1] == 4 else ():
+                where, info, _ = struct.unpack_from("<QQq", data, at)
+                moved[s[7], where] = symbols[info >> 32][0]
+        self.functions = {}
+        for symbol, info, section, value, size in symbols:
+            if info & 15 == 2 and section and self.machine == AARCH64:
+                words = struct.unpack_from(f"<{size // 4}I", data, sections[section][4] + value)
+                self.functions[symbol] = Function(words, {
+                    i: moved.get((section, value + 4 * i), symbol) for i, word in enumerate(words) if calls(word)})
 
     def instructions(self):
-        return [word for (word,) in struct.iter_unpack("<I", self.code)]
+        return [word for function in self.functions.values() for word in function.words]
 
 
 def members(archive):
@@ -90,20 +103,56 @@ def one_register(word):
     return 1 << (word >> 30), (word >> 22) & 3 != 0, (word >> 5) & 31
 
 
-def small_loads(words):
-    """Loads of fewer than eight bytes, but for those from the stack (base register 31)."""
+def small_loads(words, least):
+    """The sizes of loads of fewer bytes than these, but for loads from the stack (base register 31)."""
     found = [one_register(word) for word in words]
-    return [f for f in found if f and f[1] and f[0] < 8 and f[2] != 31]
+    return sorted({f[0] for f in found if f and f[1] and f[0] < least and f[2] != 31})
 
 
-def descriptor_loads(words):
-    """Loads of eight bytes at a base plus a register: ldr x, [x, x]."""
-    return [word for word in words if word & 0xffe00c00 == 0xf8600800]
+def loads_descriptor(word):
+    """A load of eight bytes at a base plus a register: ldr x, [x, x]."""
+    return word & 0xffe00c00 == 0xf8600800
+
+
+def stores_descriptor(word):
+    """A store of eight bytes at a base plus a register: str x, [x, x]."""
+    return word & 0xffe00c00 == 0xf8200800
+
+
+def writes_to_ram(function):
+    """In the order of the code: C for a frame cleared, S for a descriptor stored."""
+    return "".join("C" if function.calls.get(i) == "memset" else "S" if stores_descriptor(word) else ""
+                   for i, word in enumerate(function.words))
 
 
 def frame_sizes(words):
     """What is taken from the stack pointer: sub sp, sp, #n."""
     return [((word >> 10) & 0xfff) << (12 if word >> 22 & 1 else 0) for word in words if word & 0xff8003ff == 0xd10003ff]
+
+
+# What a function clears and stores. In map a new table is cleared before it is linked, and the page's entry comes last; set-up clears
+# the ledger.
+WRITES = {"pageledger_set_up": "C", "pageledger_create": "C", "pageledger_give": "C", "pageledger_map": "(CS)+S", "pageledger_unmap": "S"}
+# How many descriptors a function reads at least, as compiled.
+READS = {"pageledger_map": 2, "pageledger_unmap": 2, "pageledger_both_stages": 1}
+# Those of the walk have no ledger, whose words are of 32 bits.
+WALKS = r"walk::.*|pageledger_(stage2|both_stages)"
+
+
+def check_functions(say, functions):
+    """Arm: each descriptor is read by one load and written by one store."""
+    words = [word for function in functions.values() for word in function.words]
+    say("has code", None if len(words) > 100 else f"{len(words)} instructions")
+    small = {name: small_loads(f.words, 8 if re.fullmatch(WALKS, name) else 4) for name, f in functions.items()}
+    say("reads RAM by no load of fewer than 64 bits", ", ".join(f"{name} has loads of {found} bytes" for name, found in small.items() if found))
+    wrong = [name for name, least in READS.items() if sum(map(loads_descriptor, functions[name].words)) < least]
+    say("reads a descriptor by one 64-bit load", wrong and f"{', '.join(wrong)}: too few ldr x, [x, x]")
+    wrote = {name: writes_to_ram(f) for name, f in functions.items()}
+    wrong = [f"{name} writes '{wrote[name]}'" for name in wrote if not re.fullmatch(WRITES.get(name, ""), wrote[name])]
+    say("writes a descriptor by one 64-bit store, and links a table once it is cleared", ", ".join(wrong))
+    say("divides nothing", "there are divisions" if any(map(divides, words)) else None)
+    large = [size for size in frame_sizes(words) if size >= 1024]
+    say("takes less than 1 KiB of stack", f"a frame of {large[0]} bytes" if large else None)
 
 
 def check_archive(count, folder, machine, functions):
@@ -115,7 +164,7 @@ def check_archive(count, folder, machine, functions):
     say("for its machine", listed(o.name for o in objects if o.machine != machine))
     say("defines the header's functions", listed(functions - set().union(*(o.defined for o in ours))))
     say("defines nothing else", listed(set().union(*(o.defined for o in ours)) - functions))
-    say("wants no more than memset, memcpy, memmove", listed(set().union(*(o.wanted for o in objects)) - HELPERS))
+    say("wants no more than memset, memcpy, memmove: no division in software, no stack protector", listed(set().union(*(o.wanted for o in objects)) - HELPERS))
     print(f"{folder} wants: {listed(set().union(*(o.wanted for o in ours))) or 'nothing'}")
     if folder == "aarch64-none-elf":
         defined = set().union(*(o.defined for o in objects))
@@ -126,14 +175,7 @@ def check_archive(count, folder, machine, functions):
         say("has no helpers", listed(o.name for o in helpers))
     if machine != AARCH64:
         return
-    words = [word for o in ours for word in o.instructions()]
-    say("has code", None if len(words) > 100 else f"{len(words)} instructions")
-    small = small_loads(words)
-    say("reads RAM by no load of fewer than 64 bits", f"{len(small)} loads, of {sorted({f[0] for f in small})} bytes" if small else None)
-    say("reads a descriptor by one 64-bit load", None if descriptor_loads(words) else "there is no ldr x, [x, x]")
-    say("divides nothing", "there are divisions" if any(map(divides, words)) else None)
-    large = [size for size in frame_sizes(words) if size >= 1024]
-    say("takes less than 1 KiB of stack", f"a frame of {large[0]} bytes" if large else None)
+    check_functions(say, {name: f for o in ours for name, f in o.functions.items()})
 
 
 def main():
@@ -143,8 +185,8 @@ def main():
     for folder, machine in (("x86_64-linux", X86_64), ("aarch64-linux", AARCH64), ("aarch64-none-elf", AARCH64)):
         try:
             check_archive(count, folder, machine, functions)
-        except (OSError, ValueError, struct.error) as problem:
-            count.check(folder, f"{problem}; ./build writes it")
+        except (OSError, ValueError, KeyError, StopIteration, struct.error) as problem:
+            count.check(folder, f"{problem!r}; ./build writes it")
     count.finish()
 
 

@@ -33,6 +33,10 @@ NEVER = [("WALK_ABORT level 0", where) for where in ("stage 2", "during 1", "dur
 OTHERS = [f"stage2 fetched {n}" for n in (2, 3, 4)] + [f"walk fetched {n}" for n in range(8, 25)]
 OTHERS += ["stage2 REFUSED", "walk REFUSED", "walk with nothing fetched"]
 OTHERS += ["setup 0", "setup 4", "word ok", "word refused", "peek", "peek refused"]
+OTHERS += [f"{name} 5" for name in ("give", "map", "unmap", "share", "unshare", "take", "destroy", "translate")]
+OTHERS += ["create 0", "create 1", "destroy 0", "invalidated 0", "invalidated 1", "guest none", "guest 1"]
+OTHERS += ["frame free", "frame monitor", "frame 4"]
+OTHERS += ["ledger", "error: setup needed"]
 OTHERS += [f"error: {why}" for why in ("unknown command", "number expected", "number too large", "line too long")]
 OTHERS += [f"error: {why}" for why in ("too many words", "too few words", "access is r, w or x", "level is el0 or el1")]
 OTHERS += ["error: not text"]
@@ -43,6 +47,8 @@ def kind_of(line, answer):
     if answer.startswith("error: "):
         return answer
     command = line.split()[0].decode()
+    if command == "ledger":
+        return command
     if answer == "TRANSLATION stage 1 level 0 fetched 0":
         return "walk with nothing fetched"
     failure = re.fullmatch(r"(\w+) (stage \d) (level \d)(?: during stage 1 level (\d))? fetched \d+", answer)

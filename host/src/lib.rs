@@ -1,6 +1,10 @@
-//! What a guest's address translates to, through its own tables and the monitor's: a safe interface to the proved library.
-//! `include/pageledger.h` tells what each function does; here its numbers are types.
+//! What a guest's address translates to, through its own tables and the monitor's, and the monitor's operations on them: a safe
+//! interface to the proved library. `include/pageledger.h` tells what each function does; here its numbers are types.
 #![cfg_attr(not(test), no_std)]
+
+mod monitor;
+
+pub use monitor::{ledger_words, Frame, Guest, Monitor, NotMade, Refusal, Shared, FRAME_NUMBERS, GUEST_NUMBERS};
 
 mod raw {
     // Each is as include/pageledger.h has it.

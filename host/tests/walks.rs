@@ -1,35 +1,13 @@
 //! The library beside a second implementation of document 01, on images whose walks go deep, damaged on the walk's way and
 //! anywhere, with fitting and hostile arguments. Deterministic: PAGELEDGER_SEED sets the seed that is printed, and
 //! PAGELEDGER_WALKS the number of walks. Every answer that can be must come 1,000 times.
+mod common;
 mod document;
 
+use common::{setting, told, Random};
 use document::{Fetched, Walked};
-use pageledger::{Access, Answer, El, Kind, Ram, Short, NUMBERS};
+use pageledger::{Access, Answer, El, Kind, Ram, Short};
 use std::collections::BTreeMap;
-
-struct Random(u64);
-
-impl Random {
-    fn next(&mut self) -> u64 {
-        self.0 = self.0.wrapping_add(0x9e3779b97f4a7c15);
-        let mut z = self.0;
-        z = (z ^ (z >> 30)).wrapping_mul(0xbf58476d1ce4e5b9);
-        z = (z ^ (z >> 27)).wrapping_mul(0x94d049bb133111eb);
-        z ^ (z >> 31)
-    }
-
-    fn below(&mut self, n: u64) -> u64 {
-        self.next() % n
-    }
-
-    fn one_in(&mut self, n: u64) -> bool {
-        self.below(n) == 0
-    }
-
-    fn pick<T: Copy>(&mut self, from: &[T]) -> T {
-        from[self.below(from.len() as u64) as usize]
-    }
-}
 
 const LOW: u64 = (1 << 48) - 1;
 
@@ -186,22 +164,6 @@ impl Query {
     }
 }
 
-/// The library's answer; nothing but the first seven numbers of the array may change.
-fn answered(random: &mut Random, query: &Query, bytes: &[u8]) -> Answer {
-    const MARK: u64 = 0x5a5a_5a5a_5a5a_5a5a;
-    if random.one_in(64) {
-        let mut short = [MARK; NUMBERS - 1];
-        let room = random.below(NUMBERS as u64) as usize;
-        assert_eq!(query.ask(bytes, &mut short[..room]), Err(Short));
-        assert_eq!(short, [MARK; NUMBERS - 1], "an array that is too short was written");
-    }
-    let mut out = [MARK; NUMBERS + 3];
-    let room = NUMBERS + random.below(3) as usize;
-    assert_eq!(query.ask(bytes, &mut out[..room]), Ok(()));
-    assert!(out[NUMBERS..].iter().all(|x| *x == MARK), "more than an answer was written");
-    pageledger::answer(*out.first_chunk().unwrap())
-}
-
 /// What is counted of an answer.
 fn name(query: &Query, walked: &Walked) -> String {
     let of = if query.both { "both stages" } else { "stage 2 alone" };
@@ -245,13 +207,6 @@ fn possible() -> Vec<String> {
     names
 }
 
-fn setting(name: &str, otherwise: u64) -> u64 {
-    match std::env::var(name) {
-        Ok(text) => text.parse().unwrap_or_else(|_| panic!("{name} is a number, and not {text}")),
-        Err(_) => otherwise,
-    }
-}
-
 #[test]
 fn walks() {
     let seed = setting("PAGELEDGER_SEED", 1);
@@ -287,7 +242,7 @@ fn walks() {
             }
             let copy = random.one_in(200).then(|| image.bytes.clone());
             let expected = query.expected(&image.bytes);
-            let answer = answered(random, &query, &image.bytes);
+            let answer = pageledger::answer(told(random, |out| query.ask(&image.bytes, out)));
             assert_eq!(answer, expected.answer, "seed {seed}, walk {done}: {query:x?}");
             if let Some(copy) = copy {
                 assert!(copy == image.bytes, "seed {seed}, walk {done}: RAM was written");
@@ -299,6 +254,7 @@ fn walks() {
             }
         }
     }
+    println!();
     for (name, count) in &seen {
         println!("{count:8} {name}");
     }

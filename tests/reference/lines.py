@@ -6,6 +6,7 @@ from walk import FRAME, TOP
 
 ALL_ONES = (1 << 64) - 1
 QUESTIONS = 60  # to each image, besides those that damage it
+COUNTS = script.Session.OPERATIONS | {"frame": 1, "guest": 1}  # the numbers of each command for the monitor
 
 
 class Script:
@@ -13,6 +14,8 @@ class Script:
 
     def __init__(self):
         self.session, self.lines, self.answers = script.Session(), [], []
+        for line in ("ledger", "translate 1 0 r", *(f"{name} {'1 ' * COUNTS[name]}" for name in COUNTS)):
+            self.add(line)  # before set-up
 
     def add(self, line):
         line = line if isinstance(line, bytes) else line.encode()
@@ -25,7 +28,8 @@ class Script:
         image = images.Image(random)
         self.add(f"setup {random.choice((15, 1025, 65536, 65537))} {image.base:#x} 0")
         self.add(f"setup {image.n} {image.base:#x} {random.choice((0, 1, image.n - 1))}")
-        for line in edges(image):
+        # RAM is all zero, so that it does not show which frame was a table for a moment.
+        for line in ("create 1", "destroy 1", "invalidated 1", *edges(image)):
             self.add(line)
         for address, value in image.words.items():
             self.add(f"word {address:#x} {value:#x}")
@@ -34,6 +38,8 @@ class Script:
             self.sweep(image, stage2(image, image.root2, random.choice(list(image.where))))
         for _ in range(QUESTIONS):
             self.ask(image, question(image))
+            if random.random() < 0.3:
+                self.ask(image, about_ledger(image))
 
     def sweep(self, image, asked):
         """Damages each descriptor on the way, one at a time, and asks again."""
@@ -46,12 +52,13 @@ class Script:
 
     def ask(self, image, asked):
         """Asks; at times damages the image for good, or the question."""
+        self.session.last = None
         self.add(asked)
-        fetched = self.session.last.fetched
+        fetched = self.session.last and self.session.last.fetched
         if fetched and image.random.random() < 0.1:
             address = image.random.choice(fetched)
             self.add(f"word {address:#x} {images.damaged(image, address, self.session.ram.word(address)):#x}")
-        if image.random.random() < 0.1:
+        if image.random.random() < 0.1 and not asked.startswith("create "):  # which might then create a guest
             self.add(garbled(image.random, asked))
 
 
@@ -84,6 +91,18 @@ def question(image):
         return stage2(image, root2, mostly(ipa, (TOP, TOP - 1, ALL_ONES, random.randrange(TOP))))
     va = random.choice(image.pages) & images.ADDRESS | offset
     return walk(image, root1, root2, mostly(va, (TOP, TOP - 1, ALL_ONES, va ^ 1 << random.randrange(64))))
+
+
+def about_ledger(image):
+    """An operation or a question with any numbers, while no guest exists: create is given no number of a guest."""
+    random = image.random
+    usual = (0, 1, 4, 5, FRAME, image.n - 1, image.n, 1 << 32, TOP, ALL_ONES)
+    some = lambda: random.choice((*usual, random.getrandbits(64)))
+    if random.random() < 0.1:
+        return "ledger" if image.n <= 100 else f"translate {some()} {some()} {random.choice('rwx')}"
+    name = random.choice(list(COUNTS))
+    numbers = [some() for _ in range(COUNTS[name])]
+    return f"create {5 + numbers[0] // 2}" if name == "create" else " ".join([name, *map(str, numbers)])
 
 
 def garbled(random, line):

@@ -1,8 +1,9 @@
 #!/usr/bin/env python3
-"""The script language over the walk of walk.py: script.py FILE prints what ./pageledger FILE should."""
+"""The script language over walk.py and monitor.py: script.py FILE prints what ./pageledger FILE should."""
 
 import sys
 
+import monitor
 import walk as document
 
 FRAMES = 1024  # the program lends no more
@@ -45,21 +46,45 @@ def text(line):
     return before.decode("ascii")
 
 
-class Session:
-    """The state between the lines of a script, and the last walk, for those who want to see it."""
+def asks(question):
+    """A command for the monitor. It needs a ledger and tables that set-up and operations have made."""
 
-    def __init__(self):
-        self.ram = document.Ram(0, 0)
+    def act(session, *words):
+        if session.monitor is None:
+            raise Bad("setup needed")
+        return question(session, *words)
+
+    return act
+
+
+def operation(name):
+    return asks(lambda session, *numbers: str(session.monitor.answer(name, *numbers)))
+
+
+class Session:
+    """The state between the lines of a script, and the last walk, for those who want to see it.
+
+    There is no monitor before set-up, and none after a word was written into one of its tables.
+    """
+
+    def __init__(self, choose=None):
+        self.ram, self.monitor, self.choose = document.Ram(0, 0), None, choose
         self.last = None
 
     def setup(self, n, b, k):
         if n > FRAMES or not document.fits(n, b) or k >= n:
             return "4"
         self.ram = document.Ram(n, b)
+        self.monitor = monitor.Monitor(self.ram, k, self.choose)
         return "0"
 
     def word(self, address, value):
-        return "ok" if self.ram.store(address, value) else "refused"
+        if not self.ram.store(address, value):
+            return "refused"
+        touched = {(byte - self.ram.b) // document.FRAME for byte in (address, address + 7)}
+        if self.monitor and any(self.monitor.frames[f].holds_table() for f in touched):
+            self.monitor = None
+        return "ok"
 
     def peek(self, address):
         value = self.ram.word(address)
@@ -73,13 +98,40 @@ class Session:
         self.last = document.Walk(self.ram)
         return document.both(self.last, *words)
 
+    @asks
+    def translate(self, g, ipa, access):
+        if g not in monitor.GUESTS or not self.monitor.guests[g].exists():
+            return "5"
+        return self.stage2(self.monitor.guests[g].root, ipa, access)
+
+    @asks
+    def frame(self, f):
+        return monitor.describe(self.monitor.frames[f]) if f < self.ram.n else "4"
+
+    @asks
+    def guest(self, g):
+        if g not in monitor.GUESTS:
+            return "1"
+        guest = self.monitor.guests[g]
+        return (f"exists {guest.root:#x}" if guest.exists() else "none") + (" dirty" if guest.dirty else "")
+
+    @asks
+    def ledger(self):
+        return "\n".join(f"{f} {monitor.describe(frame)}" for f, frame in enumerate(self.monitor.frames))
+
+    OPERATIONS = {"create": 1, "give": 2, "map": 4, "unmap": 2, "share": 4, "unshare": 3, "take": 2}
+    OPERATIONS |= {"destroy": 1, "invalidated": 1}  # each with the count of its numbers
     FORMS = {
         "setup": (setup, (number, number, number)),
         "word": (word, (number, number)),
         "peek": (peek, (number,)),
         "stage2": (stage2, (number, number, access)),
         "walk": (walk, (number, number, number, access, level)),
-    }
+        "translate": (translate, (number, number, access)),
+        "frame": (frame, (number,)),
+        "guest": (guest, (number,)),
+        "ledger": (ledger, ()),
+    } | {name: (operation(name), (number,) * count) for name, count in OPERATIONS.items()}
 
     def obey(self, line):
         """The answer to a line, without its newline; None where nothing is printed."""

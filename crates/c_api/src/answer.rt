@@ -1,9 +1,12 @@
-// A walk's answer as seven numbers at the start of an array.
+// An answer as numbers at the start of an array: seven of a walk, three of a frame or a guest.
 ghost use mathlib.Core.Path.{_≡_};
+ghost use mathlib.Core.Bool.{cond};
 ghost use mathlib.Core.List.{_++_};
 ghost use Prim.Native.Nat.{_≤_};
 ghost use lib.ListN.{length, drop};
-ghost use Rattle.c_api.specs.Answer.{number, numbers, seven, status, told};
+ghost use Rattle.c_api.specs.Answer.{number, numbers, frame-numbers, guest-numbers, seven, three, status, told};
+use monitor::FrameKind;
+use monitor::GuestKind;
 use walk::Answer;
 use walk::Kind;
 
@@ -65,11 +68,56 @@ fn put(out: &mut [u64], answer: Answer)
 
 // Answers 15 where the array has no room for seven numbers, and 0 otherwise.
 pub(crate) fn tell(out: &mut [u64], answer: Answer) -> u64
-    ensures { λ r. ⌜ (r ≡ status (length (now (out .entry)))) × (now (out .exit) ≡ told answer (now (out .entry))) ⌝ }
+    ensures { λ r. ⌜ (r ≡ status 7 (length (now (out .entry)))) × (now (out .exit) ≡ told 7 (numbers answer) (now (out .entry))) ⌝ }
 {
     if out.len() < 7 {
         return 15;
     }
     put(out, answer);
     0
+}
+
+// Answers 15 where the array has no room for three numbers, and 0 otherwise.
+fn tell_three(out: &mut [u64], what: u64, second: u64, third: u64) -> u64
+    ensures { λ r. ⌜ (r ≡ status 3 (length (now (out .entry)))) × (now (out .exit) ≡ told 3 (three what second third) (now (out .entry))) ⌝ }
+{
+    if out.len() < 3 {
+        return 15;
+    }
+    out[0] = what;
+    out[1] = second;
+    out[2] = third;
+    0
+}
+
+pub(crate) fn tell_frame(out: &mut [u64], frame: FrameKind) -> u64
+    ensures { λ r. ⌜ (r ≡ status 3 (length (now (out .entry)))) × (now (out .exit) ≡ told 3 (frame-numbers frame) (now (out .entry))) ⌝ }
+{
+    match frame {
+        FrameKind::Outside => tell_three(out, 0, 0, 0),
+        FrameKind::Monitor => tell_three(out, 1, 0, 0),
+        FrameKind::Free => tell_three(out, 2, 0, 0),
+        FrameKind::Table(g) => tell_three(out, 3, g, 0),
+        FrameKind::Draining(g) => tell_three(out, 4, g, 0),
+        FrameKind::Page { owner, mapped } => tell_three(out, 5, owner, mapped),
+    }
+}
+
+fn bit(b: bool) -> u64
+    ensures { λ r. ⌜ r ≡ cond b 1 0 ⌝ }
+{
+    if b {
+        return 1;
+    }
+    0
+}
+
+pub(crate) fn tell_guest(out: &mut [u64], guest: GuestKind) -> u64
+    ensures { λ r. ⌜ (r ≡ status 3 (length (now (out .entry)))) × (now (out .exit) ≡ told 3 (guest-numbers guest) (now (out .entry))) ⌝ }
+{
+    match guest {
+        GuestKind::Nobody => tell_three(out, 0, 0, 0),
+        GuestKind::Absent { dirty } => tell_three(out, 1, 0, bit(dirty)),
+        GuestKind::Present { root, dirty } => tell_three(out, 2, root, bit(dirty)),
+    }
 }

@@ -9,3 +9,4 @@ pub mod Words
 pub mod Stores
 pub mod Sound
 pub mod Start
+pub mod Beside

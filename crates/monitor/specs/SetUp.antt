@@ -14,7 +14,7 @@ use Rattle.model.specs.Invariant.Holds.{started-core}
 use Rattle.ledger.specs.Layout.{words-for, most-frames, size-of, word-of, state-in, state-of}
 use Rattle.ledger.specs.Start.{LaidOut}
 use Rattle.ledger.specs.Sound.{Sound}
-use Rattle.monitor.specs.Answers.{Outcome, refused-so, stops, goes-on, passed, and-left, and-right, and-both}
+use Rattle.operation.specs.Answers.{Outcome, refused-so, stops, goes-on, passed, and-left, and-right, and-both}
 
 -- the slices have the lengths that n asks for
 unfoldable pub slices-fit : (n : ℕ) (ram ledger : List ℕ) → Bool

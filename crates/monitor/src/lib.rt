@@ -1,11 +1,17 @@
 // The operations of document 03, section 3, on the two lent slices: RAM, and the ledger outside it.
 // An operation is a check, which only borrows, so that a refusal changes nothing; and then a doing, which cannot fail.
-pub mod guests;
-pub mod mapping;
-pub mod pages;
 pub mod questions;
-pub mod sharing;
 pub mod start;
+
+pub use guests::create;
+pub use guests::destroy;
+pub use guests::invalidated;
+pub use mapping::map;
+pub use pages::give;
+pub use pages::take;
+pub use sharing::share;
+pub use sharing::unshare;
+pub use unmapping::unmap;
 
 // What a frame is; Outside where there is no such frame. A page is mapped in so many places.
 pub enum FrameKind {

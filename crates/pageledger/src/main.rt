@@ -1,7 +1,8 @@
 // Runs a script: standard input to standard output.
 ghost use mathlib.Core.Path.{_≡_};
-ghost use Prim.Native.Nat.{_+_, _≤_};
+ghost use Prim.Native.Nat.{_+_, _/_, _≤_};
 ghost use lib.ListN.{length};
+ghost use Rattle.script.specs.Answers.{Room};
 ghost use Rattle.pageledger.specs.Ready.{Ready, Goes};
 use libc::STDIN_FILENO;
 use libc::STDOUT_FILENO;
@@ -26,11 +27,12 @@ fn write_out(out: &[u8], n: usize)
 }
 
 // Writes the output where there is no room for another answer, and says how much of it is left.
-fn flushed(out: &[u8], n: usize) -> usize
-    requires { ⌜ (n ≤ length (now out)) × (256 ≤ length (now out)) ⌝ }
-    ensures { λ r. ⌜ r + 256 ≤ length (now (out .entry)) ⌝ }
+fn flushed(out: &[u8], ram: &[u8], n: usize) -> usize
+    requires { ⌜ (n ≤ length (now out)) × (Room (length (now ram)) (length (now out))) ⌝ }
+    ensures { λ r. ⌜ r + (length (now (ram .entry)) / 16 + 256) ≤ length (now (out .entry)) ⌝ }
 {
-    if n <= out.len() - 256 {
+    let room = ram.len() / 16 + 256;
+    if n <= out.len() - room {
         return n;
     }
     write_out(out, n);
@@ -38,17 +40,17 @@ fn flushed(out: &[u8], n: usize) -> usize
 }
 
 // Answers the line that was gathered.
-fn end_line(s: State, line: &[u8], ram: &mut [u8], out: &mut [u8]) -> State
-    requires { ⌜ Ready s (length (now line)) (length (now ram)) (length (now out)) ⌝ }
-    ensures { λ r. ⌜ Ready r (length (now (line .entry))) (length (now (ram .entry))) (length (now (out .entry))) ⌝ }
+fn end_line(s: State, line: &[u8], ram: &mut [u8], ledger: &mut [u32], out: &mut [u8]) -> State
+    requires { ⌜ Ready s (length (now line)) (now ram) (now ledger) (length (now out)) ⌝ }
+    ensures { λ r. ⌜ Ready r (length (now (line .entry))) (now (ram .exit)) (now (ledger .exit)) (length (now (out .entry))) ⌝ }
 {
     let n = s.line;
     let at = s.out;
     let machine = s.machine;
-    let done = script::answer_line(&line[..n], machine, ram, &mut out[at..]);
+    let done = script::answer_line(&line[..n], machine, ram, ledger, &mut out[at..]);
     let after = done.machine;
     let end = at + done.printed;
-    let left = flushed(out, end);
+    let left = flushed(out, ram, end);
     State {
         machine: after,
         line: 0,
@@ -74,57 +76,57 @@ fn gather(s: State, line: &mut [u8], b: u8) -> State
     s
 }
 
-fn take(s: State, b: u8, line: &mut [u8], ram: &mut [u8], out: &mut [u8]) -> State
-    requires { ⌜ Ready s (length (now line)) (length (now ram)) (length (now out)) ⌝ }
-    ensures { λ r. ⌜ Ready r (length (now (line .entry))) (length (now (ram .entry))) (length (now (out .entry))) ⌝ }
+fn take(s: State, b: u8, line: &mut [u8], ram: &mut [u8], ledger: &mut [u32], out: &mut [u8]) -> State
+    requires { ⌜ Ready s (length (now line)) (now ram) (now ledger) (length (now out)) ⌝ }
+    ensures { λ r. ⌜ Ready r (length (now (line .entry))) (now (ram .exit)) (now (ledger .exit)) (length (now (out .entry))) ⌝ }
 {
     if b == b'\n' {
-        return end_line(s, line, ram, out);
+        return end_line(s, line, ram, ledger, out);
     }
     gather(s, line, b)
 }
 
-fn take_all(s: State, chunk: &[u8], line: &mut [u8], ram: &mut [u8], out: &mut [u8]) -> State
-    requires { ⌜ Ready s (length (now line)) (length (now ram)) (length (now out)) ⌝ }
-    ensures { λ r. ⌜ Ready r (length (now (line .entry))) (length (now (ram .entry))) (length (now (out .entry))) ⌝ }
+fn take_all(s: State, chunk: &[u8], line: &mut [u8], ram: &mut [u8], ledger: &mut [u32], out: &mut [u8]) -> State
+    requires { ⌜ Ready s (length (now line)) (now ram) (now ledger) (length (now out)) ⌝ }
+    ensures { λ r. ⌜ Ready r (length (now (line .entry))) (now (ram .exit)) (now (ledger .exit)) (length (now (out .entry))) ⌝ }
 {
     let mut t = s;
     let mut i = 0;
     while i < chunk.len() {
-        t = take(t, chunk[i], line, ram, out);
+        t = take(t, chunk[i], line, ram, ledger, out);
         i += 1;
     }
     t
 }
 
 // The last line may have no line end.
-fn finish(s: State, line: &mut [u8], ram: &mut [u8], out: &mut [u8])
-    requires { ⌜ Ready s (length (now line)) (length (now ram)) (length (now out)) ⌝ }
+fn finish(s: State, line: &mut [u8], ram: &mut [u8], ledger: &mut [u32], out: &mut [u8])
+    requires { ⌜ Ready s (length (now line)) (now ram) (now ledger) (length (now out)) ⌝ }
 {
     if 0 < s.line {
-        let t = end_line(s, line, ram, out);
+        let t = end_line(s, line, ram, ledger, out);
         write_out(out, t.out);
         return;
     }
     write_out(out, s.out);
 }
 
-fn read_some(s: State, line: &mut [u8], ram: &mut [u8], out: &mut [u8]) -> Turn
-    requires { ⌜ Ready s (length (now line)) (length (now ram)) (length (now out)) ⌝ }
-    ensures { λ r. ⌜ Goes r (length (now (line .entry))) (length (now (ram .entry))) (length (now (out .entry))) ⌝ }
+fn read_some(s: State, line: &mut [u8], ram: &mut [u8], ledger: &mut [u32], out: &mut [u8]) -> Turn
+    requires { ⌜ Ready s (length (now line)) (now ram) (now ledger) (length (now out)) ⌝ }
+    ensures { λ r. ⌜ Goes r (length (now (line .entry))) (now (ram .exit)) (now (ledger .exit)) (length (now (out .entry))) ⌝ }
 {
     let mut chunk = io::large_buffer();
     let got = io::count(libc::read(STDIN_FILENO, &mut chunk), &chunk);
     if got == 0 {
-        finish(s, line, ram, out);
+        finish(s, line, ram, ledger, out);
         return Turn::End;
     }
-    Turn::More(take_all(s, &chunk[..got], line, ram, out))
+    Turn::More(take_all(s, &chunk[..got], line, ram, ledger, out))
 }
 
 // A proved loop has to end, and nothing says that the input does: the turns are counted down from a number that no run uses up.
-fn serve(line: &mut [u8], ram: &mut [u8], out: &mut [u8])
-    requires { ⌜ 256 ≤ length (now out) ⌝ }
+fn serve(line: &mut [u8], ram: &mut [u8], ledger: &mut [u32], out: &mut [u8])
+    requires { ⌜ Room (length (now ram)) (length (now out)) ⌝ }
 {
     let mut s = State {
         machine: machine::no_machine(),
@@ -133,7 +135,7 @@ fn serve(line: &mut [u8], ram: &mut [u8], out: &mut [u8])
     };
     let mut turns = u64::MAX;
     while 0 < turns {
-        match read_some(s, line, ram, out) {
+        match read_some(s, line, ram, ledger, out) {
             Turn::More(t) => s = t,
             Turn::End => return,
         }
@@ -141,13 +143,15 @@ fn serve(line: &mut [u8], ram: &mut [u8], out: &mut [u8])
     }
 }
 
-fn run(ram: &mut [u8; 4194304]) {
+fn run(ram: &mut [u8; 4194304], ledger: &mut [u32; 16528], out: &mut [u8; 524288]) {
     let mut line = io::buffer();
-    let mut out = io::large_buffer();
-    serve(&mut line, ram, &mut out);
+    serve(&mut line, ram, ledger, out);
 }
 
+// 1,024 frames, their ledger of 144 + 16 x 1,024 words, and an output that holds what two lines print.
 fn main() {
     let mut ram = [0u8; 4194304];
-    run(&mut ram);
+    let mut ledger = [0u32; 16528];
+    let mut out = [0u8; 524288];
+    run(&mut ram, &mut ledger, &mut out);
 }

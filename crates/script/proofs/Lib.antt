@@ -1,1 +1,2 @@
-mod Parsing
+-- For the proofs of the code.
+mod Told

@@ -1,37 +1,30 @@
 -- What a line does: the whole script language in one relation.
-use Prim.Native.Nat.{ℕ, _≤_}
+use Prim.Native.Nat.{ℕ, _+_, _*_, _/_, _≤_}
 use mathlib.Core.Path.{_≡_}
 use mathlib.Core.List.{List, []}
 use lib.ListN.{take}
+use Rattle.language.specs.declared.Read.{Read}
+use Rattle.language.specs.declared.Read.the-variants.{Nothing, Asked, Unread}
 use Rattle.machine.specs.declared.Machine.{Machine}
-use Rattle.machine.specs.Machine.{Within, outcomeOf, ramAfter}
+use Rattle.machine.specs.declared.Reply.{Reply}
+use Rattle.machine.specs.Machine.{Kept, Executed, outcome, ramOf, ledgerOf}
+use Rattle.ledger.specs.Layout.{state-of}
 use Rattle.script.specs.declared.Answered.{Answered}
-use Rattle.script.specs.declared.command.Read.{Read}
-use Rattle.script.specs.declared.command.Read.the-variants.{Nothing, Asked, Unread}
-use Rattle.script.specs.Commands.{readOf}
 use Rattle.script.specs.Line.{replyText, mistakeText}
 
--- the machine and the lent slice after a line: an empty one, and one that can't be read, change nothing
-unfoldable pub machineAfter : Read → Machine → List ℕ → Machine
-machineAfter Nothing m ram = m
-machineAfter (Asked c) m ram = outcomeOf c m ram .machine
-machineAfter (Unread r) m ram = m
+-- an output of so many bytes has room for what any line prints, where so many bytes are lent as RAM
+abbrev pub Room : (ram out : ℕ) → Type 0
+Room ram out = ram / 16 + 256 ≤ out
 
-unfoldable pub sliceAfter : Read → Machine → List ℕ → List ℕ
-sliceAfter Nothing m ram = ram
-sliceAfter (Asked c) m ram = ramAfter c m ram
-sliceAfter (Unread r) m ram = ram
-
--- what it prints
-unfoldable pub textAfter : Read → Machine → List ℕ → List ℕ
-textAfter Nothing m ram = []
-textAfter (Asked c) m ram = replyText (outcomeOf c m ram .reply)
-textAfter (Unread r) m ram = mistakeText r
+-- the machine and the slices after a line, and what it prints: an empty one, and one that can't be read, change nothing
+abbrev pub Did : Read → Machine → (ram ledger ram′ ledger′ : List ℕ) → Machine → (text : List ℕ) → Type 0
+Did Nothing m ram l ram′ l′ m′ text = (m′ ≡ m) × (ram′ ≡ ram) × (l′ ≡ l) × (text ≡ [])
+Did (Asked c) m ram l ram′ l′ m′ text =
+    (x : Reply) × Executed c m ram l ram′ l′ (outcome m′ x) × (text ≡ replyText (state-of (ramOf m′ ram′) (ledgerOf m′ l′)) x)
+Did (Unread why) m ram l ram′ l′ m′ text = (m′ ≡ m) × (ram′ ≡ ram) × (l′ ≡ l) × (text ≡ mistakeText why)
 
 -- the line x was answered: `out` begins with what it prints
-pub record Answers (x : Read) (m : Machine) (ram after out : List ℕ) (r : Answered) : Type 0 where
-  pub machine-after : r .machine ≡ machineAfter x m ram
-  pub slice-after : after ≡ sliceAfter x m ram
-  pub text : take (r .printed) out ≡ textAfter x m ram
-  pub within : Within (r .machine) ram
-  pub short : r .printed ≤ 256
+pub record Answers (x : Read) (m : Machine) (ram ledger ram′ ledger′ out : List ℕ) (r : Answered) : Type 0 where
+  pub did : Did x m ram ledger ram′ ledger′ (r .machine) (take (r .printed) out)
+  pub kept : Kept (r .machine) ram′ ledger′
+  pub short : r .printed ≤ 160 * r .machine .frames + 256

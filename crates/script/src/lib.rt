@@ -2,17 +2,15 @@
 // It reads and writes nothing outside of the slices that it is lent.
 ghost use Prim.Native.Nat.{_≤_};
 ghost use lib.ListN.{length};
-ghost use Rattle.machine.specs.Machine.{Within};
-ghost use Rattle.script.specs.Commands.{readOf};
-ghost use Rattle.script.specs.Answers.{Answers};
+ghost use Rattle.language.specs.Commands.{readOf};
+ghost use Rattle.machine.specs.Machine.{Kept};
+ghost use Rattle.script.specs.Answers.{Room, Answers};
 
-mod command;
 mod print;
 
-use command::Read;
-pub use command::Reason;
-use command::read_line;
-use machine::Command;
+use language::Command;
+use language::Read;
+use language::read_line;
 use machine::Machine;
 use machine::execute;
 use print::put_mistake;
@@ -24,28 +22,28 @@ pub struct Answered {
     pub printed: usize,
 }
 
-fn answer_command(c: Command, m: Machine, ram: &mut [u8], out: &mut [u8]) -> Answered
-    requires { ⌜ (Within m (now ram)) × (256 ≤ length (now out)) ⌝ }
-    ensures { λ r. ⌜ Answers (Read.Asked c) m (now (ram .entry)) (now (ram .exit)) (now (out .exit)) r ⌝ }
+fn answer_command(c: Command, m: Machine, ram: &mut [u8], ledger: &mut [u32], out: &mut [u8]) -> Answered
+    requires { ⌜ (Kept m (now ram) (now ledger)) × (Room (length (now ram)) (length (now out))) ⌝ }
+    ensures { λ r. ⌜ Answers (Read.Asked c) m (now (ram .entry)) (now (ledger .entry)) (now (ram .exit)) (now (ledger .exit)) (now (out .exit)) r ⌝ }
 {
-    let o = execute(c, m, ram);
+    let o = execute(c, m, ram, ledger);
     let machine = o.machine;
     let reply = o.reply;
-    let printed = put_reply(out, reply);
+    let printed = put_reply(out, reply, machine, ram, ledger);
     Answered { machine, printed }
 }
 
 // Answers one line, given without its line end.
-pub fn answer_line(line: &[u8], m: Machine, ram: &mut [u8], out: &mut [u8]) -> Answered
-    requires { ⌜ (Within m (now ram)) × (256 ≤ length (now out)) ⌝ }
-    ensures { λ r. ⌜ Answers (readOf (now (line .entry))) m (now (ram .entry)) (now (ram .exit)) (now (out .exit)) r ⌝ }
+pub fn answer_line(line: &[u8], m: Machine, ram: &mut [u8], ledger: &mut [u32], out: &mut [u8]) -> Answered
+    requires { ⌜ (Kept m (now ram) (now ledger)) × (Room (length (now ram)) (length (now out))) ⌝ }
+    ensures { λ r. ⌜ Answers (readOf (now (line .entry))) m (now (ram .entry)) (now (ledger .entry)) (now (ram .exit)) (now (ledger .exit)) (now (out .exit)) r ⌝ }
 {
     match read_line(line) {
         Read::Nothing => Answered {
             machine: m,
             printed: 0,
         },
-        Read::Asked(c) => answer_command(c, m, ram, out),
+        Read::Asked(c) => answer_command(c, m, ram, ledger, out),
         Read::Unread(why) => Answered {
             machine: m,
             printed: put_mistake(out, why),

@@ -1,50 +1,26 @@
 // A reply as a line of text, at the start of a slice that the caller lends.
-ghost use Prim.Native.Nat.{_+_, _≤_};
-ghost use lib.ListN.{length, take};
+ghost use mathlib.Core.Path.{_≡_};
+ghost use mathlib.Core.Bool.{true};
+ghost use Prim.Native.Nat.{_+_, _*_, _≤_};
+ghost use lib.ListN.{length};
 ghost use Rattle.text.specs.Wrote.{Wrote};
-ghost use Rattle.script.specs.Line.{Says, kindText, faultText, answerText, reasonText, replyText, mistakeText};
-use crate::command::Reason;
+ghost use Rattle.ledger.specs.Layout.{state-of};
+ghost use Rattle.machine.specs.Machine.{Kept, ramOf, ledgerOf};
+ghost use Rattle.printing.specs.Answer.{Says};
+ghost use Rattle.script.specs.Line.{Tellable, reasonText, replyText, mistakeText};
+ghost use Rattle.machine.specs.declared.Reply.the-variants.{Frame, Ledger};
+use language::Reason;
+use machine::Machine;
 use machine::Reply;
+use printing::answers::Text;
+use printing::answers::put_answer;
+use printing::answers::put_text;
+use printing::frames::put_frame;
+use printing::frames::put_ledger;
+use printing::guests::put_guest;
 use text::digits::put;
 use text::digits::put_decimal;
-use text::digits::put_field;
-use text::digits::put_hex;
 use text::digits::put_word;
-use walk::Answer;
-use walk::Kind;
-
-// A text of at most 20 bytes: the first ones.
-struct Text {
-    bytes: [u8; 20],
-    length: usize,
-}
-
-fn kind_text(k: Kind) -> Text
-    ensures { λ r. ⌜ Says r (kindText k) ⌝ }
-{
-    match k {
-        Kind::WalkAbort => Text {
-            bytes: *b"WALK_ABORT          ",
-            length: 10,
-        },
-        Kind::Translation => Text {
-            bytes: *b"TRANSLATION         ",
-            length: 11,
-        },
-        Kind::NotModelled => Text {
-            bytes: *b"NOT_MODELLED        ",
-            length: 12,
-        },
-        Kind::AccessFlag => Text {
-            bytes: *b"ACCESS_FLAG         ",
-            length: 11,
-        },
-        Kind::Permission => Text {
-            bytes: *b"PERMISSION          ",
-            length: 10,
-        },
-    }
-}
 
 fn reason_text(why: Reason) -> Text
     ensures { λ r. ⌜ Says r (reasonText why) ⌝ }
@@ -89,60 +65,29 @@ fn reason_text(why: Reason) -> Text
     }
 }
 
-fn put_text(out: &mut [u8], at: usize, t: Text) -> usize
-    requires { ⌜ (at + 20 ≤ length (now out)) × (t .length ≤ 20) × (t .length ≤ length (t .bytes)) ⌝ }
-    ensures { λ r. ⌜ Wrote 20 (now (out .entry)) at (now (out .exit)) r (take (t .length) (t .bytes)) ⌝ }
+fn put_frame_line(out: &mut [u8], m: Machine, ram: &[u8], ledger: &[u32], f: u64) -> usize
+    requires { ⌜ (Kept m (now ram) (now ledger)) × (m .ready ≡ true) × (256 ≤ length (now out)) ⌝ }
+    ensures { λ r. ⌜ Wrote 129 (now (out .entry)) 0 (now (out .exit)) r (replyText (state-of (ramOf m (now (ram .entry))) (ledgerOf m (now (ledger .entry)))) (Frame f)) ⌝ }
 {
-    let bytes = t.bytes;
-    let n = t.length;
-    put(out, at, &bytes[..n])
+    let n = (4096 * m.frames) as usize;
+    let w = (144 + 16 * m.frames) as usize;
+    let at = put_frame(out, 0, &ram[..n], &ledger[..w], f);
+    put(out, at, b"\n")
 }
 
-fn put_fault(out: &mut [u8], at: usize, k: Kind, stage: u64, level: u64) -> usize
-    requires { ⌜ at + 74 ≤ length (now out) ⌝ }
-    ensures { λ r. ⌜ Wrote 74 (now (out .entry)) at (now (out .exit)) r (faultText k stage level) ⌝ }
+fn put_whole_ledger(out: &mut [u8], m: Machine, ram: &[u8], ledger: &[u32]) -> usize
+    requires { ⌜ (Kept m (now ram) (now ledger)) × (m .ready ≡ true) × (160 * m .frames ≤ length (now out)) ⌝ }
+    ensures { λ r. ⌜ Wrote (160 * m .frames) (now (out .entry)) 0 (now (out .exit)) r (replyText (state-of (ramOf m (now (ram .entry))) (ledgerOf m (now (ledger .entry)))) Ledger) ⌝ }
 {
-    let a = put_text(out, at, kind_text(k));
-    let b = put_field(out, a, b" stage ", stage);
-    put_field(out, b, b" level ", level)
+    let n = (4096 * m.frames) as usize;
+    let w = (144 + 16 * m.frames) as usize;
+    put_ledger(out, 0, &ram[..n], &ledger[..w])
 }
 
-fn put_answer(out: &mut [u8], at: usize, a: Answer) -> usize
-    requires { ⌜ at + 145 ≤ length (now out) ⌝ }
-    ensures { λ r. ⌜ Wrote 145 (now (out .entry)) at (now (out .exit)) r (answerText a) ⌝ }
-{
-    match a {
-        Answer::Found { address, fetched } => {
-            let next = put_hex(out, at, address);
-            put_field(out, next, b" fetched ", fetched)
-        }
-        Answer::Fault {
-            kind,
-            stage,
-            level,
-            fetched,
-        } => {
-            let next = put_fault(out, at, kind, stage, level);
-            put_field(out, next, b" fetched ", fetched)
-        }
-        Answer::During {
-            kind,
-            level,
-            of,
-            fetched,
-        } => {
-            let next = put_fault(out, at, kind, 2, level);
-            let after = put_field(out, next, b" during stage 1 level ", of);
-            put_field(out, after, b" fetched ", fetched)
-        }
-        Answer::Refused => put(out, at, b"REFUSED"),
-    }
-}
-
-// A reply's line, with its end.
-pub fn put_reply(out: &mut [u8], reply: Reply) -> usize
-    requires { ⌜ 256 ≤ length (now out) ⌝ }
-    ensures { λ r. ⌜ Wrote 146 (now (out .entry)) 0 (now (out .exit)) r (replyText reply) ⌝ }
+// A reply's line, with its end; the whole ledger has a line for each frame.
+pub fn put_reply(out: &mut [u8], reply: Reply, m: Machine, ram: &[u8], ledger: &[u32]) -> usize
+    requires { ⌜ (Kept m (now ram) (now ledger)) × (Tellable m reply) × (160 * m .frames + 256 ≤ length (now out)) ⌝ }
+    ensures { λ r. ⌜ Wrote (160 * m .frames + 256) (now (out .entry)) 0 (now (out .exit)) r (replyText (state-of (ramOf m (now (ram .entry))) (ledgerOf m (now (ledger .entry)))) reply) ⌝ }
 {
     match reply {
         Reply::Done => put(out, 0, b"ok\n"),
@@ -159,6 +104,13 @@ pub fn put_reply(out: &mut [u8], reply: Reply) -> usize
             let at = put_answer(out, 0, a);
             put(out, at, b"\n")
         }
+        Reply::Frame(f) => put_frame_line(out, m, ram, ledger, f),
+        Reply::Guest(g) => {
+            let at = put_guest(out, 0, g);
+            put(out, at, b"\n")
+        }
+        Reply::Ledger => put_whole_ledger(out, m, ram, ledger),
+        Reply::NoLedger => put(out, 0, b"error: setup needed\n"),
     }
 }
 

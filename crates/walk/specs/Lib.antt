@@ -1,7 +1,5 @@
 -- Document 01, section by section: what an address translates to.
 pub mod Memory
-pub mod Descriptor
-pub mod Stage
 pub mod Both
 -- Not part of the document: what the code's functions hand to each other.
 pub mod Steps

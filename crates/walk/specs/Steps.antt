@@ -1,35 +1,22 @@
 -- What the code's functions hand to each other, in the words of the definitions. No sentence of document 01 is decided here.
 use Prim.Native.Nat.{ℕ, _+_, _-_, _^_, _<_, _≤_}
 use mathlib.Core.Path.{_≡_}
-use mathlib.Core.Bool.{Bool, cond}
+use mathlib.Core.Bool.{Bool}
 use mathlib.Core.List.{List}
 use mathlib.Core.Option.{Option, none, some}
 use lib.ListN.{length}
-use lib.Dec.{eqb}
 use Rattle.walk.specs.declared.Answer.{Answer}
 use Rattle.walk.specs.declared.Answer.the-variants.{Found, Fault}
-use Rattle.walk.specs.declared.Step.{Step}
-use Rattle.walk.specs.declared.Step.the-variants.{Absent, Down, Output, Fail}
+use Rattle.descriptor.specs.declared.Step.{Step}
+use Rattle.descriptor.specs.declared.Step.the-variants.{Absent}
 use Rattle.walk.specs.declared.Ended.{Ended}
 use Rattle.walk.specs.declared.Ended.the-variants.{Reached, Failed}
 use Rattle.walk.specs.declared.Turn.{Turn}
 use Rattle.walk.specs.declared.Turn.the-variants.{Next, Told}
 use Rattle.walk.specs.Memory.{read-at}
-use Rattle.walk.specs.Descriptor.{allows-1, allows-2}
-use Rattle.walk.specs.Stage.{Stage, meaning, walk-from}
+use Rattle.descriptor.specs.Stage.{walk-from}
+use Rattle.descriptor.specs.Step.{step-of}
 use Rattle.walk.specs.Both.{Walked, One, reached, failed, Both, tell, fetch-1, fetch-2, rules-1, rules-2}
-
--- the rights at a stage; stage 2 does not look at el
-unfoldable pub allows : ℕ → ℕ → ℕ → ℕ → Bool
-allows stage el access d = cond (eqb stage 2) (allows-2 access d) (allows-1 el access d)
-
--- a stage that does nothing but say what it came to
-abbrev pub steps : (ℕ → Bool) → Stage Step
-steps rights = record { allows = rights; fault = λ kind level. Fail kind; output = Output }
-
--- what the descriptor d of a level comes to
-unfoldable pub step-of : (ℕ → Bool) → ℕ → ℕ → ℕ → Step
-step-of rights ia level d = meaning (steps rights) ia level d Down
 
 abbrev pub step-read : (ℕ → Bool) → ℕ → ℕ → Option ℕ → Step
 step-read rights ia level none = Absent

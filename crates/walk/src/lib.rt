@@ -4,18 +4,11 @@ ghost use mathlib.Core.Path.{_≡_};
 ghost use Rattle.walk.specs.Memory.{image-fits};
 ghost use Rattle.walk.specs.Both.{root-fits, answer-2, answer};
 
-mod descriptor;
 mod stage_1;
 mod stage_2;
 
-// Why a walk failed.
-pub enum Kind {
-    WalkAbort,
-    Translation,
-    NotModelled,
-    AccessFlag,
-    Permission,
-}
+pub use descriptor::Kind;
+use descriptor::Step;
 
 // `fetched` is the number of descriptors that were read.
 pub enum Answer {
@@ -37,14 +30,6 @@ pub enum Answer {
         fetched: u64,
     },
     Refused,
-}
-
-// What the descriptor at an address comes to; Absent where it is not in RAM.
-enum Step {
-    Absent,
-    Down(u64),
-    Output(u64),
-    Fail(Kind),
 }
 
 // How stage 2 ended.

@@ -5,11 +5,10 @@ ghost use Rattle.walk.specs.Both.{both as both·of, stage-1};
 ghost use Rattle.walk.specs.Steps.{Finished, told, Turns};
 use super::Answer;
 use super::Ended;
-use super::Kind;
-use super::Step;
 use super::Turn;
-use super::descriptor;
 use super::stage_2;
+use descriptor::Kind;
+use descriptor::Step;
 
 // An answer that stage 2 gives, where no other stage comes after it.
 pub(crate) fn finish(end: Ended) -> Answer

@@ -2,11 +2,11 @@
 ghost use mathlib.Core.Path.{_≡_};
 ghost use Prim.Native.Nat.{_+_, _<_, _≤_, _^_};
 ghost use Rattle.walk.specs.Both.{stage-2};
-ghost use Rattle.walk.specs.Steps.{allows, step-at, ended};
+ghost use Rattle.descriptor.specs.Step.{allows};
+ghost use Rattle.walk.specs.Steps.{step-at, ended};
 use super::Ended;
-use super::Kind;
-use super::Step;
-use super::descriptor;
+use descriptor::Kind;
+use descriptor::Step;
 
 // The descriptor at the physical address `a`, for the input address `ia` of a stage.
 pub(crate) fn visit(

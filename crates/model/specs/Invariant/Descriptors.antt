@@ -3,7 +3,7 @@ use mathlib.Core.Path.{_≡_, refl, ap, _∙_}
 use Prim.Native.Nat.{ℕ, zero, suc, _+_, _*_, _-_, _<_, _/_, _%_, _^_}
 use native.Mathlib.Omega.{arith}
 use lib.Dec.{eqb}
-use Rattle.walk.specs.Descriptor.{bit, address, allows-2}
+use Rattle.descriptor.specs.Descriptor.{bit, address, allows-2}
 use Rattle.walk.proofs.Laws.Level.{allows-read, allows-write, allows-execute}
 use Rattle.model.specs.State.{pages}
 use Rattle.model.specs.Entry.{table-entry, page-entry}

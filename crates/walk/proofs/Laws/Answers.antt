@@ -6,16 +6,17 @@ use mathlib.Core.List.{List}
 use native.Mathlib.Omega.{arith}
 use lib.ListN.{length, length-append}
 use lib.Dec.{ltb}
-use Rattle.walk.specs.declared.Kind.{Kind}
-use Rattle.walk.specs.declared.Kind.the-variants.{WalkAbort, Translation}
+use Rattle.descriptor.specs.declared.Kind.{Kind}
+use Rattle.descriptor.specs.declared.Kind.the-variants.{WalkAbort, Translation}
 use Rattle.walk.specs.declared.Answer.{Answer}
 use Rattle.walk.specs.declared.Answer.the-variants.{Found, Fault, During, Refused}
-use Rattle.walk.specs.declared.Step.{Step}
-use Rattle.walk.specs.declared.Step.the-variants.{Absent, Down, Output, Fail}
-use Rattle.walk.specs.Descriptor.{slot}
+use Rattle.descriptor.specs.declared.Step.{Step}
+use Rattle.descriptor.specs.declared.Step.the-variants.{Absent, Down, Output, Fail}
+use Rattle.descriptor.specs.Descriptor.{slot}
 use Rattle.walk.specs.Both.{Walked, ends, One, reached, failed, Both, found, fault, during, by-result, through, tell, tell-2, rules-1}
 use Rattle.walk.specs.Both.{stage-1, stage-2, both, stage2-fits, both-fits, answer-2, answer}
-use Rattle.walk.specs.Steps.{allows, step-at, rest-1}
+use Rattle.descriptor.specs.Step.{allows}
+use Rattle.walk.specs.Steps.{step-at, rest-1}
 use Rattle.walk.proofs.Laws.Turn.{replay, visited-1, turn-1}
 use Rattle.walk.proofs.Laws.Bounds.{Sane, step-sane}
 use Rattle.walk.proofs.Laws.Short.{LowOne, Short, stage-2-short}

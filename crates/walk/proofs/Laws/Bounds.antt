@@ -7,14 +7,15 @@ use mathlib.Core.Option.{Option, none, some}
 use native.Mathlib.Omega.{arith}
 use borrow.Author.Tests.{ltb-true, eqb-true}
 use lib.Dec.{eqb, ltb}
-use Rattle.walk.specs.declared.Kind.the-variants.{Translation, NotModelled, AccessFlag, Permission}
-use Rattle.walk.specs.declared.Step.{Step}
-use Rattle.walk.specs.declared.Step.the-variants.{Absent, Down, Output, Fail}
+use Rattle.descriptor.specs.declared.Kind.the-variants.{Translation, NotModelled, AccessFlag, Permission}
+use Rattle.descriptor.specs.declared.Step.{Step}
+use Rattle.descriptor.specs.declared.Step.the-variants.{Absent, Down, Output, Fail}
 use Rattle.walk.specs.Memory.{read-at}
-use Rattle.walk.specs.Descriptor.{span, bit, address, is-table, is-valid, is-modelled}
-use Rattle.walk.specs.Stage.{valid, leaf, meaning}
+use Rattle.descriptor.specs.Descriptor.{span, bit, address, is-table, is-valid, is-modelled}
+use Rattle.descriptor.specs.Stage.{valid, leaf, meaning}
 use Rattle.walk.specs.Both.{root-fits}
-use Rattle.walk.specs.Steps.{step-of, step-read, step-at}
+use Rattle.descriptor.specs.Step.{step-of}
+use Rattle.walk.specs.Steps.{step-read, step-at}
 
 pub and-left : (a b : Bool) → (a && b) ≡ true → a ≡ true
 and-left true b e = refl

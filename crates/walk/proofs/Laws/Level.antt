@@ -10,10 +10,10 @@ use borrow.Author.Tests.{lt-ltb, le-leb}
 use lib.Dec.{eqb, ltb}
 use lib.ListN.{length}
 use Rattle.memory.specs.Word.{wordAt}
-use Rattle.walk.specs.declared.Kind.the-variants.{WalkAbort, Translation, Permission}
+use Rattle.descriptor.specs.declared.Kind.the-variants.{WalkAbort, Translation, Permission}
 use Rattle.walk.specs.Memory.{read-at}
-use Rattle.walk.specs.Descriptor.{span, slot, bit, address, allows-2}
-use Rattle.walk.specs.Stage.{valid, leaf, meaning, walk-from}
+use Rattle.descriptor.specs.Descriptor.{span, slot, bit, address, allows-2}
+use Rattle.descriptor.specs.Stage.{valid, leaf, meaning, walk-from}
 use Rattle.walk.specs.Both.{ends, having-fetched, fetched-at, reached, failed, rules-2, fetch-2, stage-2}
 use Rattle.walk.specs.Steps.{rest-2}
 use Rattle.walk.proofs.Laws.Turn.{turn-last}

@@ -4,14 +4,15 @@ use mathlib.Core.Path.{_≡_, sym, subst}
 use mathlib.Core.List.{List}
 use native.Mathlib.Omega.{arith}
 use lib.ListN.{length}
-use Rattle.walk.specs.declared.Kind.the-variants.{WalkAbort}
+use Rattle.descriptor.specs.declared.Kind.the-variants.{WalkAbort}
 use Rattle.walk.specs.declared.Ended.{Ended}
 use Rattle.walk.specs.declared.Ended.the-variants.{Reached, Failed}
-use Rattle.walk.specs.declared.Step.{Step}
-use Rattle.walk.specs.declared.Step.the-variants.{Absent, Down, Output, Fail}
-use Rattle.walk.specs.Descriptor.{slot}
+use Rattle.descriptor.specs.declared.Step.{Step}
+use Rattle.descriptor.specs.declared.Step.the-variants.{Absent, Down, Output, Fail}
+use Rattle.descriptor.specs.Descriptor.{slot}
 use Rattle.walk.specs.Both.{Walked, ends, One, reached, failed, rules-2, stage-2}
-use Rattle.walk.specs.Steps.{allows, step-at, end-by, ended, rest-2}
+use Rattle.descriptor.specs.Step.{allows}
+use Rattle.walk.specs.Steps.{step-at, end-by, ended, rest-2}
 use Rattle.walk.proofs.Laws.Turn.{replay, turn-2}
 use Rattle.walk.proofs.Laws.Bounds.{Sane, step-sane}
 

@@ -6,15 +6,16 @@ use mathlib.Core.List.{List, [], _∷_}
 use mathlib.Core.Option.{Option, none, some}
 use native.Mathlib.Omega.{arith}
 use lib.Dec.{eqb}
-use Rattle.walk.specs.declared.Kind.the-variants.{WalkAbort, Translation, NotModelled, AccessFlag, Permission}
-use Rattle.walk.specs.declared.Step.{Step}
-use Rattle.walk.specs.declared.Step.the-variants.{Absent, Down, Output, Fail}
+use Rattle.descriptor.specs.declared.Kind.the-variants.{WalkAbort, Translation, NotModelled, AccessFlag, Permission}
+use Rattle.descriptor.specs.declared.Step.{Step}
+use Rattle.descriptor.specs.declared.Step.the-variants.{Absent, Down, Output, Fail}
 use Rattle.walk.specs.Memory.{read-at}
-use Rattle.walk.specs.Descriptor.{span, slot, bit, address, is-table, is-valid, is-modelled, allows-1, allows-2}
-use Rattle.walk.specs.Stage.{Stage, valid, leaf, meaning, walk-from}
+use Rattle.descriptor.specs.Descriptor.{span, slot, bit, address, is-table, is-valid, is-modelled, allows-1, allows-2}
+use Rattle.descriptor.specs.Stage.{Stage, valid, leaf, meaning, walk-from}
 use Rattle.walk.specs.Both.{Walked, ends, having-fetched, fetched-at, failed, Both, through, rules-1, rules-2, fetch-1, fetch-2, stage-2}
 use Rattle.walk.specs.Both.{fault, during}
-use Rattle.walk.specs.Steps.{allows, step-of, step-read, step-at, rest-1, rest-2}
+use Rattle.descriptor.specs.Step.{allows, step-of}
+use Rattle.walk.specs.Steps.{step-read, step-at, rest-1, rest-2}
 
 and-false : (x : Bool) → (x && false) ≡ false
 and-false true = refl

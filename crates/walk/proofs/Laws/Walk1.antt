@@ -4,17 +4,18 @@ use mathlib.Core.Path.{_≡_, refl, sym, ap, subst, _∙_}
 use mathlib.Core.List.{List, [], _∷_}
 use native.Mathlib.Omega.{arith}
 use lib.ListN.{length}
-use Rattle.walk.specs.declared.Kind.{Kind}
-use Rattle.walk.specs.declared.Kind.the-variants.{WalkAbort}
+use Rattle.descriptor.specs.declared.Kind.{Kind}
+use Rattle.descriptor.specs.declared.Kind.the-variants.{WalkAbort}
 use Rattle.walk.specs.declared.Answer.{Answer}
 use Rattle.walk.specs.declared.Answer.the-variants.{Fault, During}
 use Rattle.walk.specs.declared.Ended.{Ended}
 use Rattle.walk.specs.declared.Ended.the-variants.{Reached, Failed}
-use Rattle.walk.specs.declared.Step.{Step}
-use Rattle.walk.specs.declared.Step.the-variants.{Absent, Down, Output, Fail}
-use Rattle.walk.specs.Descriptor.{slot}
+use Rattle.descriptor.specs.declared.Step.{Step}
+use Rattle.descriptor.specs.declared.Step.the-variants.{Absent, Down, Output, Fail}
+use Rattle.descriptor.specs.Descriptor.{slot}
 use Rattle.walk.specs.Both.{Walked, ends, One, reached, failed, Both, found, fault, during, tell, tell-2, rules-1, stage-1, stage-2}
-use Rattle.walk.specs.Steps.{Finished, allows, step-at, end-by, ended, told, rest-1}
+use Rattle.descriptor.specs.Step.{allows}
+use Rattle.walk.specs.Steps.{Finished, step-at, end-by, ended, told, rest-1}
 use Rattle.walk.proofs.Laws.Turn.{replay, visited-1, turn-1}
 use Rattle.walk.proofs.Laws.Told.{goes-on, told-more, told-now, told-through}
 use Rattle.walk.proofs.Laws.Short.{LowEnd, ended-low, stage-2-short}

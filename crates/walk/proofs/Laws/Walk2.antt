@@ -3,14 +3,15 @@ use Prim.Native.Nat.{ℕ, _+_, _-_, _≤_, _<_, _^_}
 use mathlib.Core.Path.{_≡_, sym, ap, subst, _∙_}
 use mathlib.Core.List.{List, [], _∷_}
 use native.Mathlib.Omega.{arith}
-use Rattle.walk.specs.declared.Kind.{Kind}
-use Rattle.walk.specs.declared.Kind.the-variants.{WalkAbort}
+use Rattle.descriptor.specs.declared.Kind.{Kind}
+use Rattle.descriptor.specs.declared.Kind.the-variants.{WalkAbort}
 use Rattle.walk.specs.declared.Ended.the-variants.{Reached, Failed}
-use Rattle.walk.specs.declared.Step.{Step}
-use Rattle.walk.specs.declared.Step.the-variants.{Absent, Down, Output, Fail}
-use Rattle.walk.specs.Descriptor.{slot}
+use Rattle.descriptor.specs.declared.Step.{Step}
+use Rattle.descriptor.specs.declared.Step.the-variants.{Absent, Down, Output, Fail}
+use Rattle.descriptor.specs.Descriptor.{slot}
 use Rattle.walk.specs.Both.{ends, failed, rules-2, stage-2}
-use Rattle.walk.specs.Steps.{allows, step-at, ended, rest-2}
+use Rattle.descriptor.specs.Step.{allows}
+use Rattle.walk.specs.Steps.{step-at, ended, rest-2}
 use Rattle.walk.proofs.Laws.Turn.{replay, turn-2}
 use Rattle.walk.proofs.Laws.Told.{ended-more, ended-now}
 use Rattle.walk.proofs.Laws.Bounds.{Sane, step-sane}

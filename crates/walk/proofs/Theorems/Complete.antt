@@ -8,15 +8,16 @@ use mathlib.Core.Option.{Option, none, some}
 use native.Mathlib.Omega.{arith}
 use borrow.Author.Tests.{lt-ltb}
 use lib.ListN.{length, length-append}
-use Rattle.walk.specs.declared.Kind.the-variants.{WalkAbort, Translation}
-use Rattle.walk.specs.declared.Step.{Step}
-use Rattle.walk.specs.declared.Step.the-variants.{Absent, Down, Output, Fail}
+use Rattle.descriptor.specs.declared.Kind.the-variants.{WalkAbort, Translation}
+use Rattle.descriptor.specs.declared.Step.{Step}
+use Rattle.descriptor.specs.declared.Step.the-variants.{Absent, Down, Output, Fail}
 use Rattle.walk.specs.Memory.{read-at}
-use Rattle.walk.specs.Descriptor.{slot, allows-1}
-use Rattle.walk.specs.Stage.{Stage, meaning, walk-from}
+use Rattle.descriptor.specs.Descriptor.{slot, allows-1}
+use Rattle.descriptor.specs.Stage.{Stage, meaning, walk-from}
 use Rattle.walk.specs.Both.{Walked, ends, fetched-at, One, reached, failed, Both, found, fault, during, by-result}
 use Rattle.walk.specs.Both.{rules-1, fetch-1, stage-1, stage-2, both}
-use Rattle.walk.specs.Steps.{step-of, rest-1}
+use Rattle.descriptor.specs.Step.{step-of}
+use Rattle.walk.specs.Steps.{rest-1}
 use Rattle.walk.proofs.Laws.Turn.{play, plays, turn-last}
 
 -- The walks of stage 2 that stage 1 makes, in order: the same walk of one stage, of which only these are told.

@@ -4,7 +4,7 @@ use mathlib.Core.Path.{_∙_}
 use mathlib.Core.Logic.{inl, inr}
 use Rattle.ledger.specs.Layout.{size-of, state-in}
 use Rattle.ledger.specs.Laws.{guest-is}
-use Rattle.monitor.specs.Answers.{no-guest}
+use Rattle.operation.specs.Answers.{no-guest}
 use Rattle.monitor.specs.Questions.{share-told}
 use native.Mathlib.Omega.{arith}
 use borrow.Author.Tests.{lt-ltb, le-ltb}

@@ -4,7 +4,7 @@ use mathlib.Core.Path.{_∙_, sym}
 use mathlib.Core.Logic.{inl, inr}
 use Rattle.ledger.specs.Layout.{state-in}
 use Rattle.ledger.specs.Laws.{guest-is}
-use Rattle.monitor.specs.Answers.{no-guest}
+use Rattle.operation.specs.Answers.{no-guest}
 use Rattle.monitor.specs.Questions.{guest-told}
 use native.Mathlib.Omega.{arith}
 use Rattle.monitor.proofs.questions.what_guest.Statement.{statement}

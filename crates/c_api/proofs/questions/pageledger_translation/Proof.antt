@@ -1,0 +1,27 @@
+-- Written by tools/prove from the file answers beside it: edit that, and not this.
+-- The monitor's answer is the definition's, and it is told.
+use borrow.Author.Needs.{needs}
+use mathlib.Core.Path.{sym}
+use Rattle.c_api.proofs.questions.pageledger_translation.Statement.{statement}
+use Rattle.c_api.proofs.questions.pageledger_translation.Tie as tie
+
+translation-requires : tie.Need-translation-requires
+translation-requires c κs = search needs
+
+tell-requires : tie.Need-tell-requires
+tell-requires c κs = search needs
+
+same-length : tie.Need-same-length
+same-length c = search needs
+
+returns : tie.Need-returns
+returns c = (c .before .before .tell .ensures .0, simp (sym (c .before .before .before .translation .ensures)) (c .before .before .tell .ensures .1))
+
+pub pageledger-translation-spec : {M : Type 1} → statement M
+pageledger-translation-spec =
+    tie.close
+    (tie.spec
+    translation-requires
+    tell-requires
+    same-length
+    returns)

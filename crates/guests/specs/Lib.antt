@@ -1,0 +1,4 @@
+pub mod Create
+pub mod Upto
+pub mod Invalidated
+pub mod Destroy

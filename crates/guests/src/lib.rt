@@ -1,0 +1,201 @@
+// Document 03, section 3: create, invalidated, destroy.
+ghost use mathlib.Core.Path.{_≡_};
+ghost use mathlib.Core.Bool.{true};
+ghost use Prim.Native.Nat.{_<_};
+ghost use Rattle.model.specs.Base.{all};
+ghost use Rattle.model.specs.State.{is-guest};
+ghost use Rattle.model.specs.Changes.{drained, released};
+ghost use Rattle.model.specs.Operations.{refusal, create as create·of, invalidated as invalidated·of, unshared as unshared·of, destroy as destroy·of};
+ghost use Rattle.ledger.specs.Layout.{size-of, state-of, pick-of};
+ghost use Rattle.ledger.specs.Stock.{Stock, Changed};
+ghost use Rattle.ledger.specs.Sound.{Sound};
+ghost use Rattle.operation.specs.Answers.{Answers, Done};
+ghost use Rattle.guests.specs.Create.{creating};
+ghost use Rattle.guests.specs.Upto.{upto, same, without};
+ghost use Rattle.guests.specs.Invalidated.{invalidating};
+ghost use Rattle.guests.specs.Destroy.{destroying};
+use ledger::frame;
+use ledger::free_set;
+use ledger::guest;
+use ledger::header;
+use ledger::words;
+
+fn check_create(ram: &[u8], ledger: &[u32], g: u64) -> u64
+    requires { ⌜ Sound (now ram) (now ledger) ⌝ }
+    ensures { λ r. ⌜ r ≡ refusal (create·of (state-of (now (ram .entry)) (now (ledger .entry))) g (pick-of (now (ledger .entry)))) ⌝ }
+{
+    if g == 0 {
+        return 1;
+    }
+    if ledger::GUESTS < g {
+        return 1;
+    }
+    if guest::exists(ledger, g) {
+        return 2;
+    }
+    if guest::dirty(ledger, g) {
+        return 2;
+    }
+    if header::free(ledger) == 0 {
+        return 3;
+    }
+    0
+}
+
+// The table is cleared before it is the root.
+fn do_create(ram: &mut [u8], ledger: &mut [u32], g: u64)
+    requires { ⌜ Sound (now ram) (now ledger) ⌝ }
+    requires { ⌜ refusal (create·of (state-of (now ram) (now ledger)) g (pick-of (now ledger))) ≡ 0 ⌝ }
+    ensures { λ _. ⌜ Done (creating g) (now (ram .entry)) (now (ledger .entry)) (now (ram .exit)) (now (ledger .exit)) ⌝ }
+{
+    let t = free_set::next(ledger);
+    words::clear_frame(ram, t);
+    free_set::become_table(ledger, t, g, 3, 0);
+    guest::set_existence(ledger, g, 1);
+    guest::set_root(ledger, g, t);
+}
+
+// "create g: a free frame becomes g's root table, all zero"
+pub fn create(ram: &mut [u8], ledger: &mut [u32], g: u64) -> u64
+    requires { ⌜ Sound (now ram) (now ledger) ⌝ }
+    ensures { λ r. ⌜ Answers (creating g) (now (ram .entry)) (now (ledger .entry)) r (now (ram .exit)) (now (ledger .exit)) ⌝ }
+{
+    let refused = check_create(ram, ledger, g);
+    if refused != 0 {
+        return refused;
+    }
+    do_create(ram, ledger, g);
+    0
+}
+
+fn check_invalidated(ram: &[u8], ledger: &[u32], g: u64) -> u64
+    requires { ⌜ Sound (now ram) (now ledger) ⌝ }
+    ensures { λ r. ⌜ r ≡ refusal (invalidated·of (state-of (now (ram .entry)) (now (ledger .entry))) g) ⌝ }
+{
+    if g == 0 {
+        return 1;
+    }
+    if ledger::GUESTS < g {
+        return 1;
+    }
+    0
+}
+
+fn release_all(ledger: &mut [u32], g: u64)
+    requires { ⌜ Stock (now ledger) ⌝ }
+    ensures { λ _. ⌜ Changed (upto (released g) same (size-of (now (ledger .entry)))) (now (ledger .entry)) (now (ledger .exit)) ⌝ }
+{
+    let n = header::size(ledger);
+    let mut f: u64 = 0;
+    while f < n {
+        free_set::release(ledger, f, g);
+        f += 1;
+    }
+}
+
+fn do_invalidated(ram: &[u8], ledger: &mut [u32], g: u64)
+    requires { ⌜ Sound (now ram) (now ledger) ⌝ }
+    requires { ⌜ refusal (invalidated·of (state-of (now ram) (now ledger)) g) ≡ 0 ⌝ }
+    ensures { λ _. ⌜ Done (invalidating g) (now (ram .entry)) (now (ledger .entry)) (now (ram .entry)) (now (ledger .exit)) ⌝ }
+{
+    release_all(ledger, g);
+    guest::set_dirty(ledger, g, 0);
+}
+
+// "invalidated g: g isn't dirty any more; what drains for g is free"
+pub fn invalidated(ram: &[u8], ledger: &mut [u32], g: u64) -> u64
+    requires { ⌜ Sound (now ram) (now ledger) ⌝ }
+    ensures { λ r. ⌜ Answers (invalidating g) (now (ram .entry)) (now (ledger .entry)) r (now (ram .entry)) (now (ledger .exit)) ⌝ }
+{
+    let refused = check_invalidated(ram, ledger, g);
+    if refused != 0 {
+        return refused;
+    }
+    do_invalidated(ram, ledger, g);
+    0
+}
+
+// Frame f is no page that g shares with somebody, or somebody with g.
+fn unshared(ram: &[u8], ledger: &[u32], g: u64, f: u64) -> bool
+    requires { ⌜ Sound (now ram) (now ledger) ⌝ }
+    requires { ⌜ is-guest g ≡ true ⌝ }
+    requires { ⌜ f < size-of (now ledger) ⌝ }
+    ensures { λ r. ⌜ r ≡ unshared·of (state-of (now (ram .entry)) (now (ledger .entry))) g f ⌝ }
+{
+    if !frame::is_page(ledger, f) {
+        return true;
+    }
+    if frame::share(ledger, f, g) != 0 {
+        return false;
+    }
+    if !frame::is_page_of(ledger, f, g) {
+        return true;
+    }
+    frame::unshared(ledger, f)
+}
+
+fn all_unshared(ram: &[u8], ledger: &[u32], g: u64) -> bool
+    requires { ⌜ Sound (now ram) (now ledger) ⌝ }
+    requires { ⌜ is-guest g ≡ true ⌝ }
+    ensures { λ r. ⌜ r ≡ all (size-of (now (ledger .entry))) (unshared·of (state-of (now (ram .entry)) (now (ledger .entry))) g) ⌝ }
+{
+    let n = header::size(ledger);
+    let mut f: u64 = 0;
+    while f < n {
+        if !unshared(ram, ledger, g, f) {
+            return false;
+        }
+        f += 1;
+    }
+    true
+}
+
+fn check_destroy(ram: &[u8], ledger: &[u32], g: u64) -> u64
+    requires { ⌜ Sound (now ram) (now ledger) ⌝ }
+    ensures { λ r. ⌜ r ≡ refusal (destroy·of (state-of (now (ram .entry)) (now (ledger .entry))) g) ⌝ }
+{
+    if !guest::exists(ledger, g) {
+        return 5;
+    }
+    if !all_unshared(ram, ledger, g) {
+        return 13;
+    }
+    0
+}
+
+fn drain_all(ledger: &mut [u32], g: u64)
+    requires { ⌜ Stock (now ledger) ⌝ }
+    requires { ⌜ is-guest g ≡ true ⌝ }
+    ensures { λ _. ⌜ Changed (upto (drained g) (without g) (size-of (now (ledger .entry)))) (now (ledger .entry)) (now (ledger .exit)) ⌝ }
+{
+    let n = header::size(ledger);
+    let mut f: u64 = 0;
+    while f < n {
+        free_set::drain(ledger, f, g);
+        frame::set_count(ledger, f, g, 0);
+        f += 1;
+    }
+}
+
+fn do_destroy(ram: &[u8], ledger: &mut [u32], g: u64)
+    requires { ⌜ Sound (now ram) (now ledger) ⌝ }
+    requires { ⌜ refusal (destroy·of (state-of (now ram) (now ledger)) g) ≡ 0 ⌝ }
+    ensures { λ _. ⌜ Done (destroying g) (now (ram .entry)) (now (ledger .entry)) (now (ram .entry)) (now (ledger .exit)) ⌝ }
+{
+    drain_all(ledger, g);
+    guest::set_existence(ledger, g, 0);
+    guest::set_dirty(ledger, g, 1);
+}
+
+// "destroy g: g no longer exists and is dirty; its tables and pages drain for g"
+pub fn destroy(ram: &[u8], ledger: &mut [u32], g: u64) -> u64
+    requires { ⌜ Sound (now ram) (now ledger) ⌝ }
+    ensures { λ r. ⌜ Answers (destroying g) (now (ram .entry)) (now (ledger .entry)) r (now (ram .entry)) (now (ledger .exit)) ⌝ }
+{
+    let refused = check_destroy(ram, ledger, g);
+    if refused != 0 {
+        return refused;
+    }
+    do_destroy(ram, ledger, g);
+    0
+}

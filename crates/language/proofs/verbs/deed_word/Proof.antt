@@ -1,0 +1,59 @@
+-- Written by tools/prove from the file answers beside it: edit that, and not this.
+-- By the word's place in the text.
+use Rattle.language.proofs.Names.{deed-at, no-deed}
+use borrow.Author.Needs.{needs}
+use Rattle.language.proofs.verbs.deed_word.Statement.{statement}
+use Rattle.language.proofs.verbs.deed_word.Tie as tie
+
+slice-aggregate-place : tie.Need-slice-aggregate-place
+slice-aggregate-place c = search needs
+
+place-requires : tie.Need-place-requires
+place-requires c κs = search needs
+
+returns : tie.Need-returns
+returns c = deed-at (c .before .before .before .before .args .w .now) (c .before .place .ensures) (c .match .keys1)
+
+returns-2 : tie.Need-returns-2
+returns-2 c = deed-at (c .before .before .before .before .args .w .now) (c .before .place .ensures) (c .match .keys2)
+
+returns-3 : tie.Need-returns-3
+returns-3 c = deed-at (c .before .before .before .before .args .w .now) (c .before .place .ensures) (c .match .keys3)
+
+returns-4 : tie.Need-returns-4
+returns-4 c = deed-at (c .before .before .before .before .args .w .now) (c .before .place .ensures) (c .match .keys4)
+
+returns-5 : tie.Need-returns-5
+returns-5 c = deed-at (c .before .before .before .before .args .w .now) (c .before .place .ensures) (c .match .keys5)
+
+returns-6 : tie.Need-returns-6
+returns-6 c = deed-at (c .before .before .before .before .args .w .now) (c .before .place .ensures) (c .match .keys6)
+
+returns-7 : tie.Need-returns-7
+returns-7 c = deed-at (c .before .before .before .before .args .w .now) (c .before .place .ensures) (c .match .keys7)
+
+returns-8 : tie.Need-returns-8
+returns-8 c = deed-at (c .before .before .before .before .args .w .now) (c .before .place .ensures) (c .match .keys8)
+
+returns-9 : tie.Need-returns-9
+returns-9 c = deed-at (c .before .before .before .before .args .w .now) (c .before .place .ensures) (c .match .keys9)
+
+returns-10 : tie.Need-returns-10
+returns-10 c = no-deed (c .before .before .before .before .args .w .now) (c .before .place .ensures) (c .match .rest)
+
+pub deed-word-spec : {M : Type 1} → statement M
+deed-word-spec =
+    tie.close
+    (tie.spec
+    slice-aggregate-place
+    place-requires
+    returns
+    returns-2
+    returns-3
+    returns-4
+    returns-5
+    returns-6
+    returns-7
+    returns-8
+    returns-9
+    returns-10)

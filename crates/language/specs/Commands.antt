@@ -1,0 +1,70 @@
+-- The command that a line is, or why it can't be read.
+use Prim.Native.Nat.{ℕ}
+use mathlib.Core.Bool.{cond}
+use mathlib.Core.List.{List, [], _∷_}
+use lib.Dec.{leb, eqb}
+use lib.ListN.{length}
+use Rattle.text.specs.declared.numbers.Numeral.{Numeral}
+use Rattle.text.specs.declared.numbers.Numeral.the-variants.{Value, TooLarge, NoNumber}
+use Rattle.language.specs.declared.verbs.Verb.{Verb}
+use Rattle.language.specs.declared.verbs.First.{First}
+use Rattle.language.specs.declared.verbs.First.the-variants.{Known, Unknown}
+use Rattle.language.specs.declared.arguments.Form.{Form}
+use Rattle.language.specs.declared.arguments.Form.the-variants.{Plain, Access, Level}
+use Rattle.language.specs.declared.arguments.Argument.{Argument}
+use Rattle.language.specs.declared.arguments.Argument.the-variants.{Given, Wrong}
+use Rattle.language.specs.declared.Reason.{Reason}
+use Rattle.language.specs.declared.Reason.the-variants.{UnknownCommand, TooFewWords, TooManyWords, NumberExpected, NumberTooLarge, AccessExpected, LevelExpected, NotText, LineTooLong}
+use Rattle.language.specs.declared.Read.{Read}
+use Rattle.language.specs.declared.Read.the-variants.{Nothing, Asked, Unread}
+use Rattle.language.specs.Verbs.{firstOf, formsOf, shapeOf, nth, commandWith}
+use Rattle.text.specs.Text.{ascii}
+use Rattle.text.specs.Words.{textOf, textual, unblank, wordOf, afterWord, sameText}
+use Rattle.text.specs.Number.{numberOf}
+
+abbrev pub numberArgument : Numeral → Argument
+numberArgument (Value v) = Given v
+numberArgument TooLarge = Wrong NumberTooLarge
+numberArgument NoNumber = Wrong NumberExpected
+
+unfoldable pub argumentOf : Form → List ℕ → Argument
+argumentOf Plain w = numberArgument (numberOf w)
+argumentOf Access w =
+    cond (sameText w (ascii "r")) (Given 0) (cond (sameText w (ascii "w")) (Given 1) (
+    cond (sameText w (ascii "x")) (Given 2) (Wrong AccessExpected)))
+argumentOf Level w = cond (sameText w (ascii "el0")) (Given 0) (cond (sameText w (ascii "el1")) (Given 1) (Wrong LevelExpected))
+
+-- the values of a line's arguments, or why they can't be read
+pub data Values : Type 0 where
+  values : List ℕ → Values
+  failed : Reason → Values
+
+abbrev pub joined : Argument → Values → Values
+joined (Wrong r) rest = failed r
+joined (Given x) (failed r) = failed r
+joined (Given x) (values l) = values (x ∷ l)
+
+unfoldable pub valuesOf : List Form → List ℕ → Values
+valuesOf [] s = cond (eqb (length (unblank s)) 0) (values []) (failed TooManyWords)
+valuesOf (f ∷ fs) s =
+    cond (eqb (length (unblank s)) 0) (failed TooFewWords)
+    (joined (argumentOf f (wordOf (unblank s))) (valuesOf fs (afterWord (unblank s))))
+
+abbrev pub valuesFor : Verb → List ℕ → Values
+valuesFor v s = valuesOf (formsOf (shapeOf v)) s
+
+abbrev pub readFrom : Verb → Values → Read
+readFrom v (values l) = Asked (commandWith v (nth l))
+readFrom v (failed r) = Unread r
+
+unfoldable pub afterFirst : First → List ℕ → Read
+afterFirst (Known v) s = readFrom v (valuesFor v s)
+afterFirst Unknown s = Unread UnknownCommand
+
+unfoldable pub readIn : List ℕ → Read
+readIn s = cond (eqb (length s) 0) Nothing (afterFirst (firstOf (wordOf s)) (afterWord s))
+
+unfoldable pub readOf : List ℕ → Read
+readOf line =
+    cond (leb 4096 (length line)) (Unread LineTooLong) (
+    cond (textual (textOf line)) (readIn (unblank (textOf line))) (Unread NotText))

@@ -1,0 +1,243 @@
+// A line's first word: which command it asks for, what arguments follow, and the command that they make.
+ghost use mathlib.Core.Path.{_≡_};
+ghost use Rattle.language.specs.Verbs.{wordsOf, placeOf, deedOf, firstOf, deedShape, shapeOf, nth, operationWith, commandWith};
+use crate::Command;
+use crate::Operation;
+use text::words::same;
+use text::words::word_end;
+use text::words::word_start;
+
+// What a first word asks for.
+pub enum Verb {
+    Setup,
+    Word,
+    Peek,
+    Stage2,
+    Walk,
+    Translation,
+    OneFrame,
+    OneGuest,
+    WholeLedger,
+    Monitor(Deed),
+}
+
+// The operations among them.
+pub enum Deed {
+    Creating,
+    Giving,
+    Mapping,
+    Unmapping,
+    Sharing,
+    Unsharing,
+    Taking,
+    Destroying,
+    Invalidating,
+}
+
+pub enum First {
+    Known(Verb),
+    Unknown,
+}
+
+// Which of the first n words of `names` is w; n where none is.
+fn place(w: &[u8], names: &[u8], n: usize) -> usize
+    ensures { λ r. ⌜ r ≡ placeOf (now (w .entry)) (wordsOf n (now (names .entry))) ⌝ }
+{
+    let mut at = 0;
+    let mut k = 0;
+    while k < n {
+        let from = word_start(names, at);
+        at = word_end(names, from);
+        if same(w, &names[from..at]) {
+            return k;
+        }
+        k += 1;
+    }
+    n
+}
+
+fn deed_word(w: &[u8]) -> First
+    ensures { λ r. ⌜ r ≡ deedOf (now (w .entry)) ⌝ }
+{
+    let k = place(
+        w,
+        b"create give map unmap share unshare take destroy invalidated",
+        9,
+    );
+    match k {
+        0 => First::Known(Verb::Monitor(Deed::Creating)),
+        1 => First::Known(Verb::Monitor(Deed::Giving)),
+        2 => First::Known(Verb::Monitor(Deed::Mapping)),
+        3 => First::Known(Verb::Monitor(Deed::Unmapping)),
+        4 => First::Known(Verb::Monitor(Deed::Sharing)),
+        5 => First::Known(Verb::Monitor(Deed::Unsharing)),
+        6 => First::Known(Verb::Monitor(Deed::Taking)),
+        7 => First::Known(Verb::Monitor(Deed::Destroying)),
+        8 => First::Known(Verb::Monitor(Deed::Invalidating)),
+        _ => First::Unknown,
+    }
+}
+
+pub fn first_word(w: &[u8]) -> First
+    ensures { λ r. ⌜ r ≡ firstOf (now (w .entry)) ⌝ }
+{
+    let k = place(
+        w,
+        b"setup word peek stage2 walk translate frame guest ledger",
+        9,
+    );
+    match k {
+        0 => First::Known(Verb::Setup),
+        1 => First::Known(Verb::Word),
+        2 => First::Known(Verb::Peek),
+        3 => First::Known(Verb::Stage2),
+        4 => First::Known(Verb::Walk),
+        5 => First::Known(Verb::Translation),
+        6 => First::Known(Verb::OneFrame),
+        7 => First::Known(Verb::OneGuest),
+        8 => First::Known(Verb::WholeLedger),
+        _ => deed_word(w),
+    }
+}
+
+// A command's arguments: first so many numbers, then of a kind of access and a level the first `others`.
+pub struct Shape {
+    pub numbers: usize,
+    pub others: usize,
+}
+
+fn deed_shape(d: Deed) -> Shape
+    ensures { λ r. ⌜ r ≡ deedShape d ⌝ }
+{
+    let numbers = match d {
+        Deed::Creating => 1,
+        Deed::Giving => 2,
+        Deed::Mapping => 4,
+        Deed::Unmapping => 2,
+        Deed::Sharing => 4,
+        Deed::Unsharing => 3,
+        Deed::Taking => 2,
+        Deed::Destroying => 1,
+        Deed::Invalidating => 1,
+    };
+    Shape { numbers, others: 0 }
+}
+
+pub fn shape_of(v: Verb) -> Shape
+    ensures { λ r. ⌜ r ≡ shapeOf v ⌝ }
+{
+    match v {
+        Verb::Setup => Shape {
+            numbers: 3,
+            others: 0,
+        },
+        Verb::Word => Shape {
+            numbers: 2,
+            others: 0,
+        },
+        Verb::Peek => Shape {
+            numbers: 1,
+            others: 0,
+        },
+        Verb::Stage2 => Shape {
+            numbers: 2,
+            others: 1,
+        },
+        Verb::Walk => Shape {
+            numbers: 3,
+            others: 2,
+        },
+        Verb::Translation => Shape {
+            numbers: 2,
+            others: 1,
+        },
+        Verb::OneFrame => Shape {
+            numbers: 1,
+            others: 0,
+        },
+        Verb::OneGuest => Shape {
+            numbers: 1,
+            others: 0,
+        },
+        Verb::WholeLedger => Shape {
+            numbers: 0,
+            others: 0,
+        },
+        Verb::Monitor(d) => deed_shape(d),
+    }
+}
+
+fn operation(d: Deed, a: [u64; 5]) -> Operation
+    ensures { λ r. ⌜ r ≡ operationWith d (nth a) ⌝ }
+{
+    let x = a[0];
+    let y = a[1];
+    let z = a[2];
+    let w = a[3];
+    match d {
+        Deed::Creating => Operation::Create { guest: x },
+        Deed::Giving => Operation::Give { frame: x, guest: y },
+        Deed::Mapping => Operation::Map {
+            frame: x,
+            guest: y,
+            address: z,
+            rights: w,
+        },
+        Deed::Unmapping => Operation::Unmap {
+            address: x,
+            guest: y,
+        },
+        Deed::Sharing => Operation::Share {
+            guest: x,
+            frame: y,
+            other: z,
+            writing: w,
+        },
+        Deed::Unsharing => Operation::Unshare {
+            guest: x,
+            frame: y,
+            other: z,
+        },
+        Deed::Taking => Operation::Take { frame: x, guest: y },
+        Deed::Destroying => Operation::Destroy { guest: x },
+        Deed::Invalidating => Operation::Invalidated { guest: x },
+    }
+}
+
+pub fn made(v: Verb, a: [u64; 5]) -> Command
+    ensures { λ r. ⌜ r ≡ commandWith v (nth a) ⌝ }
+{
+    let x = a[0];
+    let y = a[1];
+    let z = a[2];
+    match v {
+        Verb::Setup => Command::SetUp {
+            frames: x,
+            base: y,
+            monitor: z,
+        },
+        Verb::Word => Command::StoreWord { at: x, value: y },
+        Verb::Peek => Command::PeekWord { at: x },
+        Verb::Stage2 => Command::WalkOne {
+            root: x,
+            ipa: y,
+            access: z,
+        },
+        Verb::Walk => Command::WalkBoth {
+            root1: x,
+            root2: y,
+            va: z,
+            access: a[3],
+            el: a[4],
+        },
+        Verb::Translation => Command::Translate {
+            guest: x,
+            ipa: y,
+            access: z,
+        },
+        Verb::OneFrame => Command::Frame { frame: x },
+        Verb::OneGuest => Command::Guest { guest: x },
+        Verb::WholeLedger => Command::Ledger,
+        Verb::Monitor(d) => Command::Operate(operation(d, a)),
+    }
+}

@@ -1,0 +1,46 @@
+-- Written by tools/prove from the file answers beside it: edit that, and not this.
+-- The slices have the machine's parts.
+use Prim.Native.Nat.{_+_, _*_}
+use lib.Seq.{length-take-le}
+use Rattle.machine.specs.Laws.{ledger-within}
+use borrow.Author.Needs.{needs}
+use mathlib.Core.Path.{sym}
+use Rattle.machine.proofs.questions.translate.Statement.{statement}
+use Rattle.machine.proofs.questions.translate.Tie as tie
+
+mul-n : tie.Need-mul-n
+mul-n c = search needs
+
+mul-w : tie.Need-mul-w
+mul-w c = search needs
+
+add-w : tie.Need-add-w
+add-w c = search needs
+
+slice-aggregate-translation : tie.Need-slice-aggregate-translation
+slice-aggregate-translation c = sym (length-take-le (4096 * c .before .before .before .before .before .before .args .m .frames) (c .before .before .before .before .before .before .args .ram .now) (c .before .before .before .before .before .before .pre .within))
+
+slice-aggregate-translation-2 : tie.Need-slice-aggregate-translation-2
+slice-aggregate-translation-2 c = sym (length-take-le (144 + 16 * c .before .before .before .before .before .before .before .args .m .frames) (c .before .before .before .before .before .before .before .args .ledger .now) (ledger-within (c .before .before .before .before .before .before .before .pre) (c .before .before .before .before .if1 .taken)))
+
+translation-requires : tie.Need-translation-requires
+translation-requires c κs = c .before .before .before .before .before .before .before .pre .sound (c .before .before .before .before .if1 .taken)
+
+returns : tie.Need-returns
+returns c = rw (c .before .before .before .before .before .if1 .taken) (c .translation .ensures)
+
+returns-2 : tie.Need-returns-2
+returns-2 c = search needs
+
+pub translate-spec : {M : Type 1} → statement M
+translate-spec =
+    tie.close
+    (tie.spec
+    mul-n
+    mul-w
+    add-w
+    slice-aggregate-translation
+    slice-aggregate-translation-2
+    translation-requires
+    returns
+    returns-2)

@@ -1,0 +1,47 @@
+-- Written by tools/prove from the file answers beside it: edit that, and not this.
+-- The slices have the machine's parts.
+use Prim.Native.Nat.{_+_, _*_}
+use lib.Seq.{length-take-le}
+use mathlib.Core.Path.{ap, sym}
+use Rattle.machine.specs.declared.Reply.the-variants.{Guest}
+use Rattle.machine.specs.Laws.{ledger-within}
+use borrow.Author.Needs.{needs}
+use Rattle.machine.proofs.questions.what_guest.Statement.{statement}
+use Rattle.machine.proofs.questions.what_guest.Tie as tie
+
+mul-n : tie.Need-mul-n
+mul-n c = search needs
+
+mul-w : tie.Need-mul-w
+mul-w c = search needs
+
+add-w : tie.Need-add-w
+add-w c = search needs
+
+slice-aggregate-what-guest : tie.Need-slice-aggregate-what-guest
+slice-aggregate-what-guest c = sym (length-take-le (4096 * c .before .before .before .before .before .before .args .m .frames) (c .before .before .before .before .before .before .args .ram .now) (c .before .before .before .before .before .before .pre .within))
+
+slice-aggregate-what-guest-2 : tie.Need-slice-aggregate-what-guest-2
+slice-aggregate-what-guest-2 c = sym (length-take-le (144 + 16 * c .before .before .before .before .before .before .before .args .m .frames) (c .before .before .before .before .before .before .before .args .ledger .now) (ledger-within (c .before .before .before .before .before .before .before .pre) (c .before .before .before .before .if1 .taken)))
+
+what-guest-requires : tie.Need-what-guest-requires
+what-guest-requires c κs = c .before .before .before .before .before .before .before .pre .sound (c .before .before .before .before .if1 .taken)
+
+returns : tie.Need-returns
+returns c = rw (c .before .before .before .before .before .if1 .taken) (ap Guest (c .what-guest .ensures))
+
+returns-2 : tie.Need-returns-2
+returns-2 c = search needs
+
+pub what-guest-spec : {M : Type 1} → statement M
+what-guest-spec =
+    tie.close
+    (tie.spec
+    mul-n
+    mul-w
+    add-w
+    slice-aggregate-what-guest
+    slice-aggregate-what-guest-2
+    what-guest-requires
+    returns
+    returns-2)
