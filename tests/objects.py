@@ -12,6 +12,7 @@ HERE = pathlib.Path(__file__).resolve().parent.parent
 OUT = HERE / "out"
 HELPERS = {"memset", "memcpy", "memmove"}
 X86_64, AARCH64 = 62, 183
+JUMP26, CALL26 = 282, 283  # what a linker fills in: a jump to a symbol, a call of it
 
 
 class Function:
@@ -41,17 +42,21 @@ class Object:
             symbols.append((data[texts + where:data.index(b"\0", texts + where)].decode(), info, section, value, size))
         self.defined = {symbol for symbol, info, section, _, _ in symbols if info >> 4 and section}
         self.wanted = {symbol for symbol, info, section, _, _ in symbols if info >> 4 and not section}
-        moved = {}
+        self.functions = {}
+        if self.machine != AARCH64:
+            return
+        called, starts = {}, {(section, value): symbol for symbol, info, section, value, _ in symbols if info & 15 == 2}
         for s in sections:
             for at in range(s[4], s[4] + s[5], 24) if s[1] == 4 else ():
-                where, info, _ = struct.unpack_from("<QQq", data, at)
-                moved[s[7], where] = symbols[info >> 32][0]
-        self.functions = {}
+                where, info, more = struct.unpack_from("<QQq", data, at)
+                symbol, _, section, value, _ = symbols[info >> 32]
+                if info & 0xffffffff in (JUMP26, CALL26):
+                    called[s[7], where] = starts.get((section, value + more), symbol)
         for symbol, info, section, value, size in symbols:
-            if info & 15 == 2 and section and self.machine == AARCH64:
+            if info & 15 == 2 and section:
                 words = struct.unpack_from(f"<{size // 4}I", data, sections[section][4] + value)
-                self.functions[symbol] = Function(words, {
-                    i: moved.get((section, value + 4 * i), symbol) for i, word in enumerate(words) if calls(word)})
+                places = {i: called.get((section, value + 4 * i)) for i in range(len(words))}
+                self.functions[symbol] = Function(words, {i: name for i, name in places.items() if name is not None})
 
     def instructions(self):
         return [word for function in self.functions.values() for word in function.words]
@@ -84,8 +89,8 @@ def divides(word):
     return word & 0x7fe0f800 == 0x1ac00800
 
 
-def calls(word):
-    return word >> 26 == 0b100101 or word & 0xfffffc1f == 0xd63f0000
+def calls_register(word):
+    return word & 0xfffffc1f == 0xd63f0000
 
 
 def loads_or_stores(word):
@@ -103,9 +108,9 @@ def one_register(word):
     return 1 << (word >> 30), (word >> 22) & 3 != 0, (word >> 5) & 31
 
 
-def small_loads(words, least):
+def small_loads(steps, least):
     """The sizes of loads of fewer bytes than these, but for loads from the stack (base register 31)."""
-    found = [one_register(word) for word in words]
+    found = [one_register(word) for word, _ in steps]
     return sorted({f[0] for f in found if f and f[1] and f[0] < least and f[2] != 31})
 
 
@@ -119,10 +124,20 @@ def stores_descriptor(word):
     return word & 0xffe00c00 == 0xf8200800
 
 
-def writes_to_ram(function):
-    """In the order of the code: C for a frame cleared, S for a descriptor stored."""
-    return "".join("C" if function.calls.get(i) == "memset" else "S" if stores_descriptor(word) else ""
-                   for i, word in enumerate(function.words))
+def steps(functions, name):
+    """A function's instructions in the order of the code, its callees' in the place of a call; each with the name of a callee that is
+    not among these functions."""
+    for i, word in enumerate(functions[name].words):
+        callee = functions[name].calls.get(i)
+        if callee in functions:
+            yield from steps(functions, callee)
+        else:
+            yield word, callee
+
+
+def writes_to_ram(steps):
+    """C for a frame cleared, S for a descriptor stored, ? for a call of something else."""
+    return "".join({None: "S" if stores_descriptor(word) else "", "memset": "C"}.get(callee, "?") for word, callee in steps)
 
 
 def frame_sizes(words):
@@ -135,21 +150,23 @@ def frame_sizes(words):
 WRITES = {"pageledger_set_up": "C", "pageledger_create": "C", "pageledger_give": "C", "pageledger_map": "(CS)+S", "pageledger_unmap": "S"}
 # How many descriptors a function reads at least, as compiled.
 READS = {"pageledger_map": 2, "pageledger_unmap": 2, "pageledger_both_stages": 1}
-# Those of the walk have no ledger, whose words are of 32 bits.
-WALKS = r"walk::.*|pageledger_(stage2|both_stages)"
+# These have no ledger, whose words are of 32 bits.
+WALKS = {"pageledger_stage2", "pageledger_both_stages"}
 
 
 def check_functions(say, functions):
     """Arm: each descriptor is read by one load and written by one store."""
     words = [word for function in functions.values() for word in function.words]
     say("has code", None if len(words) > 100 else f"{len(words)} instructions")
-    small = {name: small_loads(f.words, 8 if re.fullmatch(WALKS, name) else 4) for name, f in functions.items()}
+    exported = {name: list(steps(functions, name)) for name in functions if name.startswith("pageledger_")}
+    small = {name: small_loads(s, 8 if name in WALKS else 4) for name, s in exported.items()}
     say("reads RAM by no load of fewer than 64 bits", ", ".join(f"{name} has loads of {found} bytes" for name, found in small.items() if found))
-    wrong = [name for name, least in READS.items() if sum(map(loads_descriptor, functions[name].words)) < least]
+    wrong = [name for name, least in READS.items() if sum(loads_descriptor(word) for word, _ in exported[name]) < least]
     say("reads a descriptor by one 64-bit load", wrong and f"{', '.join(wrong)}: too few ldr x, [x, x]")
-    wrote = {name: writes_to_ram(f) for name, f in functions.items()}
-    wrong = [f"{name} writes '{wrote[name]}'" for name in wrote if not re.fullmatch(WRITES.get(name, ""), wrote[name])]
+    wrote = {name: writes_to_ram(s) for name, s in exported.items()}
+    wrong = [f"{name} writes '{what}'" for name, what in wrote.items() if not re.fullmatch(WRITES.get(name, ""), what)]
     say("writes a descriptor by one 64-bit store, and links a table once it is cleared", ", ".join(wrong))
+    say("calls back nobody", "there is a call of a register" if any(map(calls_register, words)) else None)
     say("divides nothing", "there are divisions" if any(map(divides, words)) else None)
     large = [size for size in frame_sizes(words) if size >= 1024]
     say("takes less than 1 KiB of stack", f"a frame of {large[0]} bytes" if large else None)
@@ -164,7 +181,8 @@ def check_archive(count, folder, machine, functions):
     say("for its machine", listed(o.name for o in objects if o.machine != machine))
     say("defines the header's functions", listed(functions - set().union(*(o.defined for o in ours))))
     say("defines nothing else", listed(set().union(*(o.defined for o in ours)) - functions))
-    say("wants no more than memset, memcpy, memmove: no division in software, no stack protector", listed(set().union(*(o.wanted for o in objects)) - HELPERS))
+    # so no division in software, and no stack protector
+    say("wants no more than memset, memcpy, memmove", listed(set().union(*(o.wanted for o in objects)) - HELPERS))
     print(f"{folder} wants: {listed(set().union(*(o.wanted for o in ours))) or 'nothing'}")
     if folder == "aarch64-none-elf":
         defined = set().union(*(o.defined for o in objects))
