@@ -13,8 +13,7 @@ use Rattle.memory.specs.Laws.{length-kept, cleared-length}
 use Rattle.model.specs.State.{Kind, monitor, free, table, draining-table, page, draining-page}
 use Rattle.model.specs.Invariant.Kinds.{sort}
 use Rattle.model.specs.Invariant.Reworded.{tabled}
-use Rattle.model.specs.Operations.{Out, refuse, done, refusal}
-use Rattle.ledger.specs.Layout.{words-for, kind-of}
+use Rattle.ledger.specs.Layout.{words-for, first-of, kind-of}
 use Rattle.ledger.specs.Sound.{Sound}
 use Rattle.ledger.specs.Beside.{word-beside}
 use Rattle.monitor.specs.Answers as A
@@ -27,8 +26,9 @@ use Rattle.machine.specs.declared.Outcome.{Outcome}
 use Rattle.machine.specs.declared.Reply.{Reply}
 use Rattle.machine.specs.declared.Reply.the-variants.{Done, Code}
 use Rattle.machine.specs.Operations.{operation}
-use Rattle.machine.specs.Machine.{Kept, allowedOf, inRam, inTable, ramOf, ledgerOf, outcome, machineOf, Says, Does, Executed}
+use Rattle.machine.specs.Machine.{Kept, allowedOf, inRam, inTable, ramOf, ledgerOf, outcome, machineOf, told, Says, Does, Executed}
 use Rattle.machine.specs.Laws.{ledger-within}
+use Rattle.machine.proofs.Based.{first-kept, started-so}
 
 both : (x y : Bool) → (x && y) ≡ true → (x ≡ true) × (y ≡ true)
 both true y e = (refl, e)
@@ -98,6 +98,9 @@ pub only : {c : Command} {m : Machine} {ram l : List ℕ} {r : Outcome} {x y : R
     (Says x m ram l ram l r → Does c m ram l ram l r) → Executed c m ram l ram l r
 only {m = m} kept e q says = record { does = says (e ∙ ap (λ (z : Reply). outcome m z) q, refl, refl); kept = rw e kept }
 
+pub told-so : (m : Machine) (x y : Reply) → m .ready ≡ true → y ≡ x → y ≡ told m x
+told-so m x y h e = e ∙ rw h
+
 -- a part that was lent is back: it is in its place, and the rest is as it was
 module _ (n : ℕ) (xs ys : List ℕ) (low : n ≤ length xs) (len : length ys ≡ length (take n xs)) where
   back : take n (ys ++ drop n xs) ≡ ys
@@ -111,7 +114,7 @@ module _ (o : Operation) (m : Machine) (ram l : List ℕ) (kept : Kept m ram l) 
       ram′ ≡ ram₁ ++ drop (4096 * m .frames) ram → l′ ≡ l₁ ++ drop (words-for (m .frames)) l → Executed (Operate o) m ram l ram′ l′ (outcome m (Code k))
   operated k ram₁ l₁ ram′ l′ x a b e f = record {
     does = rw h (k, refl, record { answers = rw (ram-is, ledger-is) x; ram-rest = rw e (rest _ ram ram₁ (kept .within) a); ledger-rest = rw f (rest _ l l₁ (ledger-within kept h) b) });
-    kept = record { within = let w = kept .within in let n = ap (λ (z : List ℕ). length z) e ∙ length-front ram ram₁ (4096 * m .frames) a in omega arith; sound = λ _. rw (ram-is, ledger-is) (x .sound) };
+    kept = record { within = let w = kept .within in let n = ap (λ (z : List ℕ). length z) e ∙ length-front ram ram₁ (4096 * m .frames) a in omega arith; sound = λ _. rw (ram-is, ledger-is) (x .sound); based = λ _. rw ledger-is (based) };
   }
     where
       ram-is : take (4096 * m .frames) ram′ ≡ ram₁
@@ -120,11 +123,10 @@ module _ (o : Operation) (m : Machine) (ram l : List ℕ) (kept : Kept m ram l) 
       ledger-is : take (words-for (m .frames)) l′ ≡ l₁
       ledger-is = rw f (back _ l l₁ (ledger-within kept h) b)
 
--- the monitor's set-up of what was allowed is answered with 0
-answer-is : (o : Out) (m l : List ℕ) (r : ℕ) (m′ l′ : List ℕ) → A.Outcome o m l r m′ l′ → r ≡ refusal o
-answer-is (refuse k) m l r m′ l′ x = x .0
-answer-is (done s) m l r m′ l′ x = x .0
+      based : m .base ≡ 4096 * first-of l₁
+      based = kept .based h ∙ ap (λ (z : ℕ). 4096 * z) (sym (first-kept (ramOf m ram) (ledgerOf m l) (kept .sound h) o k ram₁ l₁ x))
 
+-- the monitor's set-up of what was allowed is answered with 0
 module _ (n b k : ℕ) (m : Machine) (ram l : List ℕ) (e : allowedOf (length ram / 4096) (length l) n b k ≡ true) where
   abbrev fits : Allowed (length ram / 4096) (length l) n b k
   fits = allowed (length ram / 4096) (length l) n b k e
@@ -133,7 +135,7 @@ module _ (n b k : ℕ) (m : Machine) (ram l : List ℕ) (e : allowedOf (length r
       length l₁ ≡ length (take (words-for n) l) → l′ ≡ l₁ ++ drop (words-for n) l → Executed (SetUp n b k) m ram l ram′ l′ (outcome (machineOf n b true) (Code answer))
   begun answer ram′ l₁ l′ c x len f = record {
     does = rw e (ap (λ (z : ℕ). outcome (machineOf n b true) (Code z)) zero, record { cleared = c; started = rw ledger-is (subst (λ (z : ℕ). S.SetUp n b k (take (4096 * n) ram′) (take (words-for n) l) z l₁) zero x); rest = rw f (rest _ l l₁ (fits .room) len) });
-    kept = record { within = ram-within; sound = λ _. rw ledger-is (x .sound zero) };
+    kept = record { within = ram-within; sound = λ _. rw ledger-is (x .sound zero); based = λ _. rw ledger-is based };
   }
     where
       ledger-is : take (words-for n) l′ ≡ l₁
@@ -142,13 +144,19 @@ module _ (n b k : ℕ) (m : Machine) (ram l : List ℕ) (e : allowedOf (length r
       ram-within : 4096 * n ≤ length ram′
       ram-within = let a = fits .enough in let b = ap (λ (z : List ℕ). length z) c ∙ cleared-length ram 0 (4096 * n) in omega arith
 
-      zero : answer ≡ 0
-      zero =
+      made : (answer ≡ 0) × (first-of l₁ ≡ b / 4096)
+      made =
           let a = length-take-le (4096 * n) ram′ ram-within in
           let d = length-take-le (words-for n) l (fits .room) in
           let high = fits .high in
-          answer-is (S.setting-up n b k (take (4096 * n) ram′) (take (words-for n) l)) _ _ answer _ _ (x .outcome)
-          ∙ sym (S.fits-all n b k (take (4096 * n) ram′) (take (words-for n) l) (omega arith) d (fits .least) (fits .many) (fits .even) (omega arith) (fits .fewer))
+          started-so n b k (take (4096 * n) ram′) (take (words-for n) l) answer l₁
+          (sym (S.fits-all n b k (take (4096 * n) ram′) (take (words-for n) l) (omega arith) d (fits .least) (fits .many) (fits .even) (omega arith) (fits .fewer))) x
+
+      zero : answer ≡ 0
+      zero = made .0
+
+      based : b ≡ 4096 * first-of l₁
+      based = let e = made .1 in let f = fits .even in omega arith
 
 -- a word that is stored in a part
 stored-part : (n : ℕ) (xs : List ℕ) (at v : ℕ) → at + 8 ≤ n → take n (storedAt xs at v) ≡ storedAt (take n xs) at v
@@ -169,7 +177,7 @@ module _ (m : Machine) (ram l : List ℕ) (kept : Kept m ram l) (a : ℕ) (e : i
   pub written : (v : ℕ) (t : Bool) → t ≡ (m .ready && not (inTable m l a)) → Executed (StoreWord a v) m ram l (storedAt ram (a - m .base) v) l (outcome (machineOf (m .frames) (m .base) t) Done)
   written v t q = record {
     does = rw e (ap (λ (z : Bool). outcome (machineOf (m .frames) (m .base) z) Done) q, refl, refl);
-    kept = record { within = let w = kept .within in let c = length-kept ram (a - m .base) v in omega arith; sound = λ z. sound (both (m .ready) (not (inTable m l a)) (sym q ∙ z)) };
+    kept = record { within = let w = kept .within in let c = length-kept ram (a - m .base) v in omega arith; sound = λ z. sound (both (m .ready) (not (inTable m l a)) (sym q ∙ z)); based = λ z. kept .based (both (m .ready) (not (inTable m l a)) (sym q ∙ z) .0) };
   }
     where
       sound : (m .ready ≡ true) × (not (inTable m l a) ≡ true) → Sound (ramOf m (storedAt ram (a - m .base) v)) (ledgerOf m l)

@@ -1,1 +1,2 @@
+mod Based
 mod Laws

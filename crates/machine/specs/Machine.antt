@@ -9,11 +9,11 @@ use lib.ListN.{length, take, drop}
 use Rattle.memory.specs.Word.{wordAt, storedAt, clearedAt}
 use Rattle.walk.specs.Both.{answer-2, answer}
 use Rattle.model.specs.Invariant.Reworded.{tabled}
-use Rattle.ledger.specs.Layout.{words-for, kind-of, exists-of, state-of}
+use Rattle.ledger.specs.Layout.{words-for, first-of, kind-of, exists-of, root-of, state-of}
 use Rattle.ledger.specs.Sound.{Sound}
 use Rattle.monitor.specs.Answers.{Answers}
 use Rattle.monitor.specs.SetUp as Start
-use Rattle.monitor.specs.Questions.{guest-told, translated}
+use Rattle.monitor.specs.Questions.{guest-told}
 use Rattle.machine.specs.Operations.{operation}
 use Rattle.language.specs.declared.Operation.{Operation}
 use Rattle.language.specs.declared.Command.{Command}
@@ -33,10 +33,12 @@ ledgerOf m ledger = take (words-for (m .frames)) ledger
 abbrev pub Within : Machine → List ℕ → Type 0
 Within m ram = 4096 * m .frames ≤ length ram
 
--- What holds between commands: where the machine is ready, the monitor can count on its RAM and its ledger. (That is then in its slice too: specs/Laws.antt.)
+-- What holds between commands. Where the machine is ready, the monitor can count on its RAM and its ledger, and the ledger is of RAM from the machine's base.
+-- (The ledger is then in its slice too: specs/Laws.antt.)
 pub record Kept (m : Machine) (ram ledger : List ℕ) : Type 0 where
   pub within : Within m ram
   pub sound : m .ready ≡ true → Sound (ramOf m ram) (ledgerOf m ledger)
+  pub based : m .ready ≡ true → m .base ≡ 4096 * first-of (ledgerOf m ledger)
 
 -- document 01, section 1: n frames from b; of the first k, the monitor's, there are fewer; and as many frames are lent, and the words of their ledger
 unfoldable pub allowedOf : (lent words n b k : ℕ) → Bool
@@ -98,9 +100,10 @@ walkedOne m ram root ipa access = Walked (answer-2 (ramOf m ram) (m .base) (m .f
 abbrev pub walkedBoth : Machine → List ℕ → (root1 root2 va access el : ℕ) → Reply
 walkedBoth m ram root1 root2 va access el = Walked (answer (ramOf m ram) (m .base) (m .frames) root1 root2 va access el)
 
--- `translate G IPA ACCESS`: "stage 2 alone from guest G's root .. `5` where there is no such guest"
-unfoldable pub translation : (ram ledger : List ℕ) → (g ipa access : ℕ) → Reply
-translation ram l g ipa access = cond (exists-of l g) (Walked (translated ram l g ipa access)) (Code 5)
+-- `translate G IPA ACCESS`: "stage 2 alone from guest G's root, as `stage2` prints it; `5` where there is no such guest"
+unfoldable pub translation : Machine → (ram ledger : List ℕ) → (g ipa access : ℕ) → Reply
+translation m ram l g ipa access =
+    cond (exists-of (ledgerOf m l) g) (walkedOne m ram (m .base + 4096 * root-of (ledgerOf m l) g) ipa access) (Code 5)
 
 -- a question that the ledger answers
 abbrev pub told : Machine → Reply → Reply
@@ -113,7 +116,7 @@ Does (PeekWord a) m ram l ram′ l′ r = Says (peeked m ram a) m ram l ram′ l
 Does (WalkOne root ipa access) m ram l ram′ l′ r = Says (walkedOne m ram root ipa access) m ram l ram′ l′ r
 Does (WalkBoth root1 root2 va access el) m ram l ram′ l′ r = Says (walkedBoth m ram root1 root2 va access el) m ram l ram′ l′ r
 Does (Operate o) m ram l ram′ l′ r = Operates (m .ready) o m ram l ram′ l′ r
-Does (Translate g ipa access) m ram l ram′ l′ r = Says (told m (translation (ramOf m ram) (ledgerOf m l) g ipa access)) m ram l ram′ l′ r
+Does (Translate g ipa access) m ram l ram′ l′ r = Says (told m (translation m ram l g ipa access)) m ram l ram′ l′ r
 Does (AskFrame f) m ram l ram′ l′ r = Says (told m (Frame f)) m ram l ram′ l′ r
 Does (AskGuest g) m ram l ram′ l′ r = Says (told m (Guest (guest-told (state-of (ramOf m ram) (ledgerOf m l)) g))) m ram l ram′ l′ r
 Does AskLedger m ram l ram′ l′ r = Says (told m Ledger) m ram l ram′ l′ r

@@ -1,9 +1,10 @@
 // What is asked of the machine and changes nothing: the walks, and what the monitor tells.
 ghost use mathlib.Core.Path.{_≡_};
-ghost use Rattle.ledger.specs.Layout.{state-of};
+ghost use mathlib.Core.Bool.{cond};
+ghost use Rattle.ledger.specs.Layout.{exists-of, state-of};
 ghost use Rattle.ledger.specs.Sound.{Sound};
-ghost use Rattle.monitor.specs.Questions.{guest-told};
-ghost use Rattle.machine.specs.declared.Reply.the-variants.{Guest};
+ghost use Rattle.monitor.specs.Questions.{guest-told, translated};
+ghost use Rattle.machine.specs.declared.Reply.the-variants.{Code, Walked, Guest};
 ghost use Rattle.machine.specs.Machine.{Within, Kept, ramOf, ledgerOf, walkedOne, walkedBoth, translation as translation·of, told};
 use super::Machine;
 use super::Reply;
@@ -36,7 +37,7 @@ pub fn walk_both(
 
 fn translation(ram: &[u8], ledger: &[u32], g: u64, ipa: u64, access: u64) -> Reply
     requires { ⌜ Sound (now ram) (now ledger) ⌝ }
-    ensures { λ r. ⌜ r ≡ translation·of (now (ram .entry)) (now (ledger .entry)) g ipa access ⌝ }
+    ensures { λ r. ⌜ r ≡ cond (exists-of (now (ledger .entry)) g) (Walked (translated (now (ram .entry)) (now (ledger .entry)) g ipa access)) (Code 5) ⌝ }
 {
     if guest::exists(ledger, g) {
         return Reply::Walked(questions::translation(ram, ledger, g, ipa, access));
@@ -46,7 +47,7 @@ fn translation(ram: &[u8], ledger: &[u32], g: u64, ipa: u64, access: u64) -> Rep
 
 pub fn translate(m: Machine, ram: &[u8], ledger: &[u32], g: u64, ipa: u64, access: u64) -> Reply
     requires { ⌜ Kept m (now ram) (now ledger) ⌝ }
-    ensures { λ r. ⌜ r ≡ told m (translation·of (ramOf m (now (ram .entry))) (ledgerOf m (now (ledger .entry))) g ipa access) ⌝ }
+    ensures { λ r. ⌜ r ≡ told m (translation·of m (now (ram .entry)) (now (ledger .entry)) g ipa access) ⌝ }
 {
     let ready = m.ready;
     if ready {

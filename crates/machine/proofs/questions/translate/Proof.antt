@@ -1,10 +1,12 @@
 -- Written by tools/prove from the file answers beside it: edit that, and not this.
--- The slices have the machine's parts.
+-- The slices have the machine's parts, and the ledger's base is the machine's.
 use Prim.Native.Nat.{_+_, _*_}
+use mathlib.Core.Path.{_∙_, sym}
 use lib.Seq.{length-take-le}
 use Rattle.machine.specs.Laws.{ledger-within}
+use Rattle.machine.proofs.Laws.{told-so}
+use Rattle.machine.proofs.Based.{translated-so}
 use borrow.Author.Needs.{needs}
-use mathlib.Core.Path.{sym}
 use Rattle.machine.proofs.questions.translate.Statement.{statement}
 use Rattle.machine.proofs.questions.translate.Tie as tie
 
@@ -27,7 +29,7 @@ translation-requires : tie.Need-translation-requires
 translation-requires c κs = c .before .before .before .before .before .before .before .pre .sound (c .before .before .before .before .if1 .taken)
 
 returns : tie.Need-returns
-returns c = rw (c .before .before .before .before .before .if1 .taken) (c .translation .ensures)
+returns c = told-so (c .before .before .before .before .before .before .before .before .args .m) _ _ (c .before .before .before .before .before .if1 .taken) (c .translation .ensures ∙ translated-so (c .before .before .before .before .before .before .before .before .pre) (c .before .before .before .before .before .if1 .taken) _ _ _)
 
 returns-2 : tie.Need-returns-2
 returns-2 c = search needs

@@ -1,6 +1,5 @@
 -- Written by tools/prove from the file answers beside it: edit that, and not this.
 -- By whether there is such a guest.
-use Rattle.machine.specs.Machine.{translation}
 use borrow.Author.Needs.{needs}
 use mathlib.Core.Path.{sym}
 use Rattle.machine.proofs.questions.translation.Statement.{statement}
@@ -13,7 +12,6 @@ translation-requires : tie.Need-translation-requires
 translation-requires c κs = search needs
 
 returns : tie.Need-returns
-unfolding translation
 returns c = simp (
   sym (c .before .before .exists .ensures),
   c .before .if1 .taken,
@@ -21,7 +19,6 @@ returns c = simp (
 )
 
 returns-2 : tie.Need-returns-2
-unfolding translation
 returns-2 c = simp (
   sym (c .before .exists .ensures),
   c .if1 .left,

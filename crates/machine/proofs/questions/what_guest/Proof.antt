@@ -5,6 +5,7 @@ use lib.Seq.{length-take-le}
 use mathlib.Core.Path.{ap, sym}
 use Rattle.machine.specs.declared.Reply.the-variants.{Guest}
 use Rattle.machine.specs.Laws.{ledger-within}
+use Rattle.machine.proofs.Laws.{told-so}
 use borrow.Author.Needs.{needs}
 use Rattle.machine.proofs.questions.what_guest.Statement.{statement}
 use Rattle.machine.proofs.questions.what_guest.Tie as tie
@@ -28,7 +29,7 @@ what-guest-requires : tie.Need-what-guest-requires
 what-guest-requires c κs = c .before .before .before .before .before .before .before .pre .sound (c .before .before .before .before .if1 .taken)
 
 returns : tie.Need-returns
-returns c = rw (c .before .before .before .before .before .if1 .taken) (ap Guest (c .what-guest .ensures))
+returns c = told-so (c .before .before .before .before .before .before .before .before .args .m) _ _ (c .before .before .before .before .before .if1 .taken) (ap Guest (c .what-guest .ensures))
 
 returns-2 : tie.Need-returns-2
 returns-2 c = search needs
