@@ -12,10 +12,10 @@ use Rattle.language.specs.declared.arguments.Argument.the-variants.{Give
 use Rattle.language.specs.declared.Reason.{Reason}
 use Rattle.language.specs.declared.Reason.the-variants.{AccessExpected, LevelExpected}
 use Rattle.language.specs.declared.verbs.First.{First}
-use Rattle.language.specs.declared.verbs.First.the-variants.{Known, Unknown}
+use Rattle.language.specs.declared.verbs.First.the-variants.{Known}
 use Rattle.text.specs.Text.{ascii}
 use Rattle.text.specs.Words.{blank, unblank, wordOf, afterWord, sameText, Ended}
-use Rattle.language.specs.Verbs.{Entry, deeds, verbs, lookup, deedOf, firstOf, wordsOf, placeOf}
+use Rattle.language.specs.Verbs.{Entry, deeds, verbs, lookup, wordsOf, placeOf}
 use Rattle.language.specs.Commands.{named, argumentOf}
 
 -- k words of s are passed, up to the place `at`, and none of them is w
@@ -114,30 +114,18 @@ apart (suc n) r h =
     let d : r ≡ n → ⊥ = h .1 in
     omega arith
 
-abbrev verb-text : List ℕ
-verb-text = ascii "setup word peek stage2 walk translate frame guest ledger"
+-- what w asks for by a table, from its place among the table's words
+module _ (t : List Entry) (w : List ℕ) (other : First) {l : List (List ℕ)} (same : l ≡ words t) {r : ℕ} (e : r ≡ placeOf w l) where
+  pub at-place : {k : ℕ} → r ≡ k → chosen t k other ≡ lookup w t other
+  at-place h = rw (← h, e, same) (looked w t other)
 
-verb-words : wordsOf 9 verb-text ≡ words verbs
+  pub no-place : Apart (length t) r → other ≡ lookup w t other
+  no-place d = beyond t r other (apart (length t) r d) ∙ at-place refl
+
+pub verb-words : wordsOf 9 (ascii "setup word peek stage2 walk translate frame guest ledger") ≡ words verbs
 unfolding wordsOf words unblank wordOf afterWord blank
 verb-words = refl
 
-pub verb-at : (w : List ℕ) {r k : ℕ} → r ≡ placeOf w (wordsOf 9 verb-text) → r ≡ k → chosen verbs k (deedOf w) ≡ firstOf w
-unfolding firstOf
-verb-at w e h = rw (← h, e, verb-words) (looked w verbs (deedOf w))
-
-pub no-verb : (w : List ℕ) {r : ℕ} → r ≡ placeOf w (wordsOf 9 verb-text) → Apart 9 r → deedOf w ≡ firstOf w
-no-verb w {r} e h = beyond verbs r (deedOf w) (apart 9 r h) ∙ verb-at w e refl
-
-abbrev deed-text : List ℕ
-deed-text = ascii "create give map unmap share unshare take destroy invalidated"
-
-deed-words : wordsOf 9 deed-text ≡ words deeds
+pub deed-words : wordsOf 9 (ascii "create give map unmap share unshare take destroy invalidated") ≡ words deeds
 unfolding wordsOf words unblank wordOf afterWord blank
 deed-words = refl
-
-pub deed-at : (w : List ℕ) {r k : ℕ} → r ≡ placeOf w (wordsOf 9 deed-text) → r ≡ k → chosen deeds k Unknown ≡ deedOf w
-unfolding deedOf
-deed-at w e h = rw (← h, e, deed-words) (looked w deeds Unknown)
-
-pub no-deed : (w : List ℕ) {r : ℕ} → r ≡ placeOf w (wordsOf 9 deed-text) → Apart 9 r → Unknown ≡ deedOf w
-no-deed w {r} e h = beyond deeds r Unknown (apart 9 r h) ∙ deed-at w e refl

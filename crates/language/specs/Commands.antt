@@ -27,7 +27,7 @@ numberArgument (Value v) = Given v
 numberArgument TooLarge = Wrong NumberTooLarge
 numberArgument NoNumber = Wrong NumberExpected
 
--- a name's number is its place among the names
+-- a name's number is its place among the names: r is 0, w 1, x 2; el0 is 0, el1 1
 unfoldable pub named : List ℕ → List (List ℕ) → Reason → Argument
 named w names why = cond (ltb (placeOf w names) (length names)) (Given (placeOf w names)) (Wrong why)
 

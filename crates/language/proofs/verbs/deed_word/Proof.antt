@@ -1,6 +1,8 @@
 -- Written by tools/prove from the file answers beside it: edit that, and not this.
 -- By the word's place in the text.
-use Rattle.language.proofs.Names.{deed-at, no-deed}
+use Rattle.language.specs.declared.verbs.First.the-variants.{Unknown}
+use Rattle.language.specs.Verbs.{deeds, deedOf}
+use Rattle.language.proofs.Names.{deed-words, at-place, no-place}
 use borrow.Author.Needs.{needs}
 use Rattle.language.proofs.verbs.deed_word.Statement.{statement}
 use Rattle.language.proofs.verbs.deed_word.Tie as tie
@@ -12,34 +14,44 @@ place-requires : tie.Need-place-requires
 place-requires c κs = search needs
 
 returns : tie.Need-returns
-returns c = deed-at (c .before .before .before .before .args .w .now) (c .before .place .ensures) (c .match .keys1)
+unfolding deedOf
+returns c = at-place deeds (c .before .before .before .before .args .w .now) Unknown deed-words (c .before .place .ensures) (c .match .keys1)
 
 returns-2 : tie.Need-returns-2
-returns-2 c = deed-at (c .before .before .before .before .args .w .now) (c .before .place .ensures) (c .match .keys2)
+unfolding deedOf
+returns-2 c = at-place deeds (c .before .before .before .before .args .w .now) Unknown deed-words (c .before .place .ensures) (c .match .keys2)
 
 returns-3 : tie.Need-returns-3
-returns-3 c = deed-at (c .before .before .before .before .args .w .now) (c .before .place .ensures) (c .match .keys3)
+unfolding deedOf
+returns-3 c = at-place deeds (c .before .before .before .before .args .w .now) Unknown deed-words (c .before .place .ensures) (c .match .keys3)
 
 returns-4 : tie.Need-returns-4
-returns-4 c = deed-at (c .before .before .before .before .args .w .now) (c .before .place .ensures) (c .match .keys4)
+unfolding deedOf
+returns-4 c = at-place deeds (c .before .before .before .before .args .w .now) Unknown deed-words (c .before .place .ensures) (c .match .keys4)
 
 returns-5 : tie.Need-returns-5
-returns-5 c = deed-at (c .before .before .before .before .args .w .now) (c .before .place .ensures) (c .match .keys5)
+unfolding deedOf
+returns-5 c = at-place deeds (c .before .before .before .before .args .w .now) Unknown deed-words (c .before .place .ensures) (c .match .keys5)
 
 returns-6 : tie.Need-returns-6
-returns-6 c = deed-at (c .before .before .before .before .args .w .now) (c .before .place .ensures) (c .match .keys6)
+unfolding deedOf
+returns-6 c = at-place deeds (c .before .before .before .before .args .w .now) Unknown deed-words (c .before .place .ensures) (c .match .keys6)
 
 returns-7 : tie.Need-returns-7
-returns-7 c = deed-at (c .before .before .before .before .args .w .now) (c .before .place .ensures) (c .match .keys7)
+unfolding deedOf
+returns-7 c = at-place deeds (c .before .before .before .before .args .w .now) Unknown deed-words (c .before .place .ensures) (c .match .keys7)
 
 returns-8 : tie.Need-returns-8
-returns-8 c = deed-at (c .before .before .before .before .args .w .now) (c .before .place .ensures) (c .match .keys8)
+unfolding deedOf
+returns-8 c = at-place deeds (c .before .before .before .before .args .w .now) Unknown deed-words (c .before .place .ensures) (c .match .keys8)
 
 returns-9 : tie.Need-returns-9
-returns-9 c = deed-at (c .before .before .before .before .args .w .now) (c .before .place .ensures) (c .match .keys9)
+unfolding deedOf
+returns-9 c = at-place deeds (c .before .before .before .before .args .w .now) Unknown deed-words (c .before .place .ensures) (c .match .keys9)
 
 returns-10 : tie.Need-returns-10
-returns-10 c = no-deed (c .before .before .before .before .args .w .now) (c .before .place .ensures) (c .match .rest)
+unfolding deedOf
+returns-10 c = no-place deeds (c .before .before .before .before .args .w .now) Unknown deed-words (c .before .place .ensures) (c .match .rest)
 
 pub deed-word-spec : {M : Type 1} → statement M
 deed-word-spec =

@@ -1,7 +1,8 @@
 -- Written by tools/prove from the file answers beside it: edit that, and not this.
 -- By the word's place in the text.
 use mathlib.Core.Path.{_∙_}
-use Rattle.language.proofs.Names.{verb-at, no-verb}
+use Rattle.language.specs.Verbs.{verbs, deedOf, firstOf}
+use Rattle.language.proofs.Names.{verb-words, at-place, no-place}
 use borrow.Author.Needs.{needs}
 use Rattle.language.proofs.verbs.first_word.Statement.{statement}
 use Rattle.language.proofs.verbs.first_word.Tie as tie
@@ -16,34 +17,44 @@ deed-word-requires : tie.Need-deed-word-requires
 deed-word-requires c κs = search needs
 
 returns : tie.Need-returns
-returns c = verb-at (c .before .before .before .before .args .w .now) (c .before .place .ensures) (c .match .keys1)
+unfolding firstOf
+returns c = at-place verbs (c .before .before .before .before .args .w .now) (deedOf (c .before .before .before .before .args .w .now)) verb-words (c .before .place .ensures) (c .match .keys1)
 
 returns-2 : tie.Need-returns-2
-returns-2 c = verb-at (c .before .before .before .before .args .w .now) (c .before .place .ensures) (c .match .keys2)
+unfolding firstOf
+returns-2 c = at-place verbs (c .before .before .before .before .args .w .now) (deedOf (c .before .before .before .before .args .w .now)) verb-words (c .before .place .ensures) (c .match .keys2)
 
 returns-3 : tie.Need-returns-3
-returns-3 c = verb-at (c .before .before .before .before .args .w .now) (c .before .place .ensures) (c .match .keys3)
+unfolding firstOf
+returns-3 c = at-place verbs (c .before .before .before .before .args .w .now) (deedOf (c .before .before .before .before .args .w .now)) verb-words (c .before .place .ensures) (c .match .keys3)
 
 returns-4 : tie.Need-returns-4
-returns-4 c = verb-at (c .before .before .before .before .args .w .now) (c .before .place .ensures) (c .match .keys4)
+unfolding firstOf
+returns-4 c = at-place verbs (c .before .before .before .before .args .w .now) (deedOf (c .before .before .before .before .args .w .now)) verb-words (c .before .place .ensures) (c .match .keys4)
 
 returns-5 : tie.Need-returns-5
-returns-5 c = verb-at (c .before .before .before .before .args .w .now) (c .before .place .ensures) (c .match .keys5)
+unfolding firstOf
+returns-5 c = at-place verbs (c .before .before .before .before .args .w .now) (deedOf (c .before .before .before .before .args .w .now)) verb-words (c .before .place .ensures) (c .match .keys5)
 
 returns-6 : tie.Need-returns-6
-returns-6 c = verb-at (c .before .before .before .before .args .w .now) (c .before .place .ensures) (c .match .keys6)
+unfolding firstOf
+returns-6 c = at-place verbs (c .before .before .before .before .args .w .now) (deedOf (c .before .before .before .before .args .w .now)) verb-words (c .before .place .ensures) (c .match .keys6)
 
 returns-7 : tie.Need-returns-7
-returns-7 c = verb-at (c .before .before .before .before .args .w .now) (c .before .place .ensures) (c .match .keys7)
+unfolding firstOf
+returns-7 c = at-place verbs (c .before .before .before .before .args .w .now) (deedOf (c .before .before .before .before .args .w .now)) verb-words (c .before .place .ensures) (c .match .keys7)
 
 returns-8 : tie.Need-returns-8
-returns-8 c = verb-at (c .before .before .before .before .args .w .now) (c .before .place .ensures) (c .match .keys8)
+unfolding firstOf
+returns-8 c = at-place verbs (c .before .before .before .before .args .w .now) (deedOf (c .before .before .before .before .args .w .now)) verb-words (c .before .place .ensures) (c .match .keys8)
 
 returns-9 : tie.Need-returns-9
-returns-9 c = verb-at (c .before .before .before .before .args .w .now) (c .before .place .ensures) (c .match .keys9)
+unfolding firstOf
+returns-9 c = at-place verbs (c .before .before .before .before .args .w .now) (deedOf (c .before .before .before .before .args .w .now)) verb-words (c .before .place .ensures) (c .match .keys9)
 
 returns-10 : tie.Need-returns-10
-returns-10 c = c .deed-word .ensures ∙ no-verb (c .before .before .before .before .before .args .w .now) (c .before .before .place .ensures) (c .before .match .rest)
+unfolding firstOf
+returns-10 c = c .deed-word .ensures ∙ no-place verbs (c .before .before .before .before .before .args .w .now) (deedOf (c .before .before .before .before .before .args .w .now)) verb-words (c .before .before .place .ensures) (c .before .match .rest)
 
 pub first-word-spec : {M : Type 1} → statement M
 first-word-spec =
