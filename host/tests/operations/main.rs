@@ -40,7 +40,7 @@ impl Shape {
             _ => 16 + random.below(32),
         };
         let highest = (1 << 48) - 4096 * n;
-        let anywhere = (random.next() % (1 << 48) & !0xfff).min(highest);
+        let anywhere = ((random.next() % (1 << 48)) & !0xfff).min(highest);
         let k = match random.below(8) {
             0 => 0,
             1 => random.below(n),

@@ -89,7 +89,10 @@ impl<'a, S: Subject> Run<'a, S> {
     }
 
     fn held(&mut self, operation: Operation, answer: u64, ledger: &[u32]) -> Result<(), String> {
-        same(|| "the answer".into(), answer, self.follow(operation)?)?;
+        let expected = self.follow(operation);
+        hold(answer == expected, || format!("the document's answer is {expected}"))?;
+        let taken = self.document.bad_choice;
+        hold(taken.is_none(), || format!("frame {taken:?}, which was not free, was taken for a table"))?;
         if answer == 0 {
             self.effect(operation)?;
             self.state()?;
@@ -124,8 +127,8 @@ impl<'a, S: Subject> Run<'a, S> {
         }
     }
 
-    /// The document's answer. Which frame is taken is not the document's choice: it follows the subject, if that frame was free.
-    fn follow(&mut self, operation: Operation) -> Result<u64, String> {
+    /// The document's answer. Which frame is taken is not the document's choice: it follows the subject.
+    fn follow(&mut self, operation: Operation) -> u64 {
         let (subject, base) = (&*self.subject, self.document.base);
         let guest = if let Operation::Create { g } = operation { g } else { 0 };
         let choose = |_: &Monitor, entry: Option<u64>| {
@@ -138,11 +141,7 @@ impl<'a, S: Subject> Run<'a, S> {
             };
             table.wrapping_sub(base) / 4096
         };
-        let answer = self.document.run(operation, &choose);
-        match self.document.bad_choice {
-            Some(f) => Err(format!("frame {f}, which was not free, was taken for a table")),
-            None => Ok(answer),
-        }
+        self.document.run(operation, &choose)
     }
 
     /// The whole state, and isolation.

@@ -58,7 +58,7 @@ pub fn addresses(random: &mut Random) -> Vec<u64> {
     let far = [0, 0x1000, 0x1ff000, 0x200000, 0x3ffff000, 0x40000000, 0x80000000, 1 << 39, 1 << 47, end - 4096];
     let mut all = Vec::new();
     for _ in 0..1 + random.below(16) {
-        let anywhere = random.next() % end & !0xfff;
+        let anywhere = (random.next() % end) & !0xfff;
         all.push(if random.one_in(3) { anywhere } else { random.pick(&far) });
     }
     let near = all[0];
@@ -121,7 +121,7 @@ impl Steps<'_> {
             0 => good + self.random.pick(&[1, 8, 0x800, 0xfff]),
             1 => good | self.random.pick(&[1 << 48, 1 << 52, 1 << 63]),
             2 => self.hostile(good),
-            3 => self.random.next() % (1 << 48) & !0xfff,
+            3 => (self.random.next() % (1 << 48)) & !0xfff,
             _ => good,
         }
     }
