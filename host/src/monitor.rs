@@ -120,7 +120,30 @@ pub const fn ledger_words(frames: u64) -> usize {
     144 + 16 * frames as usize
 }
 
-/// A set-up RAM and ledger. Both stay as operations and guests' stores make them, also where a `Monitor` is dropped.
+/// A set-up RAM and ledger. While it lives, nothing else writes them:
+///
+/// ```
+/// use pageledger::{ledger_words, Monitor, Refusal};
+/// let (mut ram, mut ledger) = (vec![0; 16 * 4096], vec![0; ledger_words(16)]);
+/// let mut monitor = Monitor::set_up(&mut ram, &mut ledger, 16, 0x40000000, 2).unwrap();
+/// monitor.create(1).unwrap();
+/// monitor.give(8, 1).unwrap();
+/// monitor.map(8, 1, 0x80000000, 1).unwrap();
+/// assert_eq!(monitor.map(8, 1, 0x80000000, 3), Err(Refusal::MappedAlready));
+/// assert!(monitor.store(1, 0x80000000, b"mapped for reading").is_err());
+/// monitor.page_mut(8).unwrap()[..4].copy_from_slice(b"boot");
+/// let mut read = [0; 4];
+/// monitor.load(1, 0x80000000, &mut read).unwrap();
+/// assert_eq!(&read, b"boot");
+/// ```
+///
+/// ```compile_fail,E0506
+/// # use pageledger::{ledger_words, Monitor};
+/// # let (mut ram, mut ledger) = (vec![0; 16 * 4096], vec![0; ledger_words(16)]);
+/// let mut monitor = Monitor::set_up(&mut ram[..], &mut ledger[..], 16, 0x40000000, 2).unwrap();
+/// ledger = vec![0; ledger_words(16)];
+/// monitor.create(1).unwrap();
+/// ```
 pub struct Monitor<'a> {
     ram: &'a mut [u8],
     ledger: &'a mut [u32],

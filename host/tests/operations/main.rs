@@ -73,14 +73,24 @@ fn steps(subject: &mut impl Subject, document: Monitor, random: &mut Random, see
     Ok(operations)
 }
 
+/// All that must be seen.
 fn possible() -> Seen {
     let answers = REFUSALS.iter().flat_map(|(name, refusals)| {
         std::iter::once(&0).chain(refusals.iter()).map(move |answer| format!("{name}: {answer}"))
     });
-    let stores = ["a guest's store: made", "a guest's store: not made", "what another guest stored: read"];
-    let kept = ["a store by a kept translation: mapped", "a store by a kept translation: no longer mapped"];
-    let others = stores.iter().chain(&kept).chain(&["a page was got back"]).map(|name| name.to_string());
-    answers.chain(others).map(|name| (name, 0)).collect()
+    let maps = (0..4).map(|tables| format!("map made {tables} tables"));
+    let refused = (0..3).map(|free| format!("map was refused with {free} free frames"));
+    let others = [
+        "take left a page draining",
+        "take left a page free",
+        "a page was got back",
+        "a guest's store: made",
+        "a guest's store: not made",
+        "a store by a kept translation: mapped",
+        "a store by a kept translation: no longer mapped",
+        "what another guest stored: read",
+    ];
+    answers.chain(maps).chain(refused).chain(others.map(String::from)).map(|name| (name, 0)).collect()
 }
 
 #[test]

@@ -89,8 +89,10 @@ impl<'a, S: Subject> Run<'a, S> {
     }
 
     fn held(&mut self, operation: Operation, answer: u64, ledger: &[u32]) -> Result<(), String> {
+        let free = self.document.free();
         let expected = self.follow(operation);
         hold(answer == expected, || format!("the document's answer is {expected}"))?;
+        self.count_more(operation, answer, free);
         let taken = self.document.bad_choice;
         hold(taken.is_none(), || format!("frame {taken:?}, which was not free, was taken for a table"))?;
         if answer == 0 {
@@ -107,12 +109,27 @@ impl<'a, S: Subject> Run<'a, S> {
         sample.into_iter().try_for_each(|a| self.translations(a))
     }
 
+    /// What tells apart cases of one answer; so many frames were free before.
+    fn count_more(&mut self, operation: Operation, answer: u64, free: usize) {
+        match (operation, answer) {
+            (Operation::Map { .. }, 0) => self.count(format!("map made {} tables", free - self.document.free())),
+            (Operation::Map { .. }, 3) => self.count(format!("map was refused with {free} free frames")),
+            (Operation::Take { .. }, 0) => {
+                let drains = free == self.document.free();
+                self.count(format!("take left a page {}", if drains { "draining" } else { "free" }));
+            }
+            _ => {}
+        }
+    }
+
     /// What an operation promises and what anybody can see without the second implementation.
     fn effect(&mut self, operation: Operation) -> Result<(), String> {
         match operation {
             Operation::Give { f, .. } => {
                 let page = &self.subject.ram()[4096 * f as usize..][..4096];
-                hold(page.iter().all(|byte| *byte == 0), || "the page is not all zero".into())
+                hold(page.iter().all(|byte| *byte == 0), || "the page is not all zero".into())?;
+                let leads = (1..=4).find(|g| self.caches.pages(*g).iter().any(|t| self.frame(t) as u64 == f));
+                hold(leads.is_none(), || format!("a cache of guest {leads:?} leads to the new page"))
             }
             Operation::Create { g } => {
                 let inherits = |f: &u64| matches!(self.subject.frame(*f), Frame::Page { readers, .. } if readers.contains(&g));
