@@ -313,6 +313,14 @@ impl<'a> Monitor<'a> {
         }
     }
 
+    /// All of RAM, for what this crate can't know of: a guest that stores by a translation that the processor kept.
+    ///
+    /// # Safety
+    /// No frame is written that is a table, or that drains and was one.
+    pub unsafe fn ram_mut(&mut self) -> &mut [u8] {
+        self.ram
+    }
+
     /// Where in RAM the bytes stand that g reaches so. A page of its tables lies in RAM.
     fn reached(&self, g: u64, ipa: u64, length: usize, access: Access) -> Result<usize, NotMade> {
         if length > 4096 - (ipa % 4096) as usize {

@@ -86,6 +86,7 @@ fn possible() -> Seen {
         "a page was got back",
         "a guest's store: made",
         "a guest's store: not made",
+        "a store by a kept translation: draining",
         "a store by a kept translation: mapped",
         "a store by a kept translation: no longer mapped",
         "what another guest stored: read",
@@ -116,7 +117,8 @@ fn operations() {
     for (name, count) in &seen {
         println!("{count:8} {name}");
     }
-    println!("seed {seed}: {done} operations in {runs} runs, {} kinds of answers, the rarest {} times", seen.len(), seen.values().min().unwrap());
+    let rarest = seen.values().min().unwrap();
+    println!("seed {seed}: {done} operations in {runs} runs, {} kinds of answers, the rarest {rarest} times", seen.len());
     assert_eq!(seen.len(), kinds, "an answer that the document does not list");
     assert!(seen.values().all(|count| *count >= 100.min(done / 2000)), "an answer is too rare to say anything");
 }

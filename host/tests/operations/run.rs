@@ -1,7 +1,7 @@
 //! One run: steps on a subject, each held to document 03 at once.
 use crate::caches::{Caches, Translation};
-use crate::document_03::{Kind, Monitor};
 use crate::common::Random;
+use crate::document_03::{Kind, Monitor};
 use crate::steps::{addresses, get_back, Operation, Steps};
 use crate::subject::{Frame, Subject};
 use pageledger::{Access, Answer};
@@ -49,7 +49,7 @@ impl<'a, S: Subject> Run<'a, S> {
     pub fn step(&mut self) -> Result<bool, String> {
         match self.random.below(10) {
             0 => self.store()?,
-            1 if self.random.one_in(2) => self.store_kept()?,
+            1 => self.store_kept()?,
             _ => return self.operation().map(|()| true),
         }
         self.before.copy_from_slice(self.subject.ram());
@@ -243,24 +243,34 @@ impl<'a, S: Subject> Run<'a, S> {
         Ok(())
     }
 
-    /// A guest stores by a translation that the processor kept, perhaps of a page that is no longer mapped.
+    /// What a guest may still do by a translation that the processor kept, if it may write.
+    fn kept(&self, g: u64, translation: &Translation) -> Option<&'static str> {
+        let f = self.frame(translation);
+        match self.document.frames[f] {
+            _ if !translation.rights[1] => None,
+            Kind::Page(_) if self.document.mapped(g, translation.ipa) == Some(f as u64) => Some("mapped"),
+            Kind::Page(_) => Some("no longer mapped"),
+            Kind::Draining { was_table: false, .. } => Some("draining"),
+            _ => None,
+        }
+    }
+
+    /// A guest stores by a translation that the processor kept, perhaps to a page that was taken from it.
     fn store_kept(&mut self) -> Result<(), String> {
         let g = 1 + self.random.below(4);
-        if !self.document.exists(g) {
+        let kept = |t: &Translation| self.kept(g, t).map(|what| (self.frame(t) as u64, what));
+        let mut all: Vec<_> = self.caches.pages(g).iter().filter_map(kept).collect();
+        if all.iter().any(|(_, what)| *what == "draining") {
+            all.retain(|(_, what)| *what == "draining");
+        }
+        if !self.document.exists(g) || all.is_empty() {
             return Ok(());
         }
-        let is_page = |t: &&Translation| matches!(self.document.frames[self.frame(t)], Kind::Page(_)) && t.rights[1];
-        let kept: Vec<_> = self.caches.pages(g).iter().filter(is_page).copied().collect();
-        if kept.is_empty() {
-            return Ok(());
-        }
-        let translation = self.random.pick(&kept);
-        let f = self.frame(&translation) as u64;
+        let (f, what) = self.random.pick(&all);
         let (offset, bytes) = (self.random.below(4089) as usize, self.random.next().to_le_bytes());
         self.subject.store_kept(f, offset, &bytes);
         self.document.store_kept(f, offset, &bytes);
-        let mapped = self.document.mapped(g, translation.ipa) == Some(f);
-        self.count(format!("a store by a kept translation: {}", if mapped { "mapped" } else { "no longer mapped" }));
+        self.count(format!("a store by a kept translation: {what}"));
         let differs = difference(self.subject.ram(), &self.document.ram);
         hold(differs.is_none(), || format!("after a store by a kept translation RAM differs in frame {differs:?}"))
     }

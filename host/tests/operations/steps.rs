@@ -1,6 +1,6 @@
 //! The operations, and which is asked for next: mostly one that fits what there is, or nearly does, and often enough hostile numbers.
-use crate::document_03::{Kind, Monitor, Page};
 use crate::common::Random;
+use crate::document_03::{Kind, Monitor, Page};
 
 #[derive(Clone, Copy, Debug, PartialEq, Eq)]
 pub enum Operation {

@@ -1,7 +1,7 @@
 //! What is held to document 03: the library, through its safe crate, or the second implementation with a wrong answer in it.
+use crate::document;
 use crate::document_03::{lowest, Choose, Kind, Monitor};
 use crate::steps::Operation;
-use crate::document;
 use pageledger::{Access, Answer, Refusal, Shared};
 use std::collections::BTreeSet;
 
@@ -32,7 +32,7 @@ pub trait Subject {
     /// Whether the guest may.
     fn store(&mut self, g: u64, ipa: u64, bytes: &[u8]) -> bool;
     fn load(&self, g: u64, ipa: u64, bytes: &mut [u8]) -> bool;
-    /// A store by a translation that the processor kept.
+    /// A store by a translation that the processor kept; the frame is a page, or drains and was one.
     fn store_kept(&mut self, f: u64, offset: usize, bytes: &[u8]);
 }
 
@@ -94,7 +94,9 @@ impl Subject for pageledger::Monitor<'_> {
     }
 
     fn store_kept(&mut self, f: u64, offset: usize, bytes: &[u8]) {
-        self.page_mut(f).expect("a page")[offset..][..bytes.len()].copy_from_slice(bytes);
+        // SAFETY: the caller's document says that it is a page, or was one.
+        let ram = unsafe { self.ram_mut() };
+        ram[4096 * f as usize + offset..][..bytes.len()].copy_from_slice(bytes);
     }
 }
 
