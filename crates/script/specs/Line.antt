@@ -1,11 +1,8 @@
 -- SCRIPT's table: what is printed.
 use Prim.Native.Nat.{ℕ}
-use mathlib.Core.Path.{_≡_}
-use mathlib.Core.Bool.{true}
 use mathlib.Core.List.{List, _++_}
 use Rattle.language.specs.declared.Reason.{Reason}
 use Rattle.language.specs.declared.Reason.the-variants.{UnknownCommand, TooFewWords, TooManyWords, NumberExpected, NumberTooLarge, AccessExpected, LevelExpected, NotText, LineTooLong}
-use Rattle.machine.specs.declared.Machine.{Machine}
 use Rattle.machine.specs.declared.Reply.{Reply}
 use Rattle.machine.specs.declared.Reply.the-variants.{Done, OutsideRam, Code, Contents, Walked, Frame, Guest, Ledger, NoLedger}
 use Rattle.model.specs.State.{State}
@@ -37,18 +34,6 @@ replyText s (Frame f) = frameText s f ++ ascii "\n"
 replyText s (Guest g) = guestText g ++ ascii "\n"
 replyText s Ledger = ledgerText s
 replyText s NoLedger = ascii "error: setup needed\n"
-
--- a frame and the ledger are told of a machine that is ready
-abbrev pub Tellable : Machine → Reply → Type 0
-Tellable m Done = Unit {0}
-Tellable m OutsideRam = Unit {0}
-Tellable m (Code n) = Unit {0}
-Tellable m (Contents v) = Unit {0}
-Tellable m (Walked a) = Unit {0}
-Tellable m (Frame f) = m .ready ≡ true
-Tellable m (Guest g) = Unit {0}
-Tellable m Ledger = m .ready ≡ true
-Tellable m NoLedger = Unit {0}
 
 -- the line of one that can't be read
 unfoldable pub mistakeText : Reason → List ℕ

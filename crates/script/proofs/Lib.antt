@@ -1,2 +1,0 @@
--- For the proofs of the code.
-mod Told
