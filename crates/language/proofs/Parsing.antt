@@ -18,7 +18,7 @@ use Rattle.language.specs.declared.Reason.{Reason}
 use Rattle.language.specs.declared.Reason.the-variants.{TooFewWords, TooManyWords}
 use Rattle.language.specs.declared.Read.{Read}
 use Rattle.language.specs.declared.Read.the-variants.{Nothing, Asked, Unread}
-use Rattle.text.specs.Words.{unblank, wordOf, afterWord, Ended}
+use Rattle.text.specs.Words.{unblank, Ended}
 use Rattle.language.specs.Verbs.{nth, commandWith, firstOf}
 use Rattle.language.specs.Commands.{argumentOf, Values, values, failed, joined, valuesOf, readFrom, afterFirst, readIn}
 
