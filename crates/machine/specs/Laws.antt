@@ -3,9 +3,9 @@ use mathlib.Core.Path.{_≡_, refl, sym, ap, _∙_}
 use mathlib.Core.Bool.{Bool, true, false, cond}
 use mathlib.Core.Logic.{inl, inr}
 use mathlib.Core.List.{List}
-use Prim.Native.Nat.{ℕ, _+_, _-_, _*_, _/_, _≤_}
+use Prim.Native.Nat.{ℕ, _-_, _*_, _/_, _≤_}
 use native.Mathlib.Omega.{arith}
-use lib.ListN.{length, take}
+use lib.ListN.{length}
 use lib.Seq.{length-take-le, take-all}
 use Rattle.model.specs.Base.{lt?}
 use Rattle.memory.specs.Word.{wordAt}
@@ -20,7 +20,7 @@ use Rattle.machine.specs.declared.Reply.{Reply}
 use Rattle.machine.specs.declared.Reply.the-variants.{Done, OutsideRam, Code, Contents, Walked, Frame, Guest, Ledger, NoLedger}
 use Rattle.machine.specs.Machine.{ramOf, ledgerOf, Kept, allowedOf, inRam, outcome, told, translation, Begins, Writes, Operates, Does, Executed}
 
--- of a machine that is ready: the ledger is one of its frames, and in the lent slice
+-- of a machine that is ready: the ledger has a row for each of its frames, and is in the lent slice
 module _ {m : Machine} {ram l : List ℕ} (k : Kept m ram l) (h : m .ready ≡ true) where
   pub size-is : size-of (ledgerOf m l) ≡ m .frames
   size-is =

@@ -73,13 +73,13 @@ abbrev pub Begins : Bool → (n b k : ℕ) → Machine → (ram ledger ram′ le
 Begins true n b k m ram l ram′ l′ r = (r ≡ outcome (machineOf n b true) (Code 0)) × Begun n b k ram l ram′ l′
 Begins false n b k m ram l ram′ l′ r = Says (Code 4) m ram l ram′ l′ r
 
--- `word A V`: "Writes them, lowest first"; the ledger does not know of a word in a table
+-- `word A V`: "Writes them, lowest first". Where one of them is in a table, the monitor can count on RAM and ledger no longer.
 abbrev pub Writes : Bool → (a v : ℕ) → Machine → (ram ledger ram′ ledger′ : List ℕ) → Outcome → Type 0
 Writes true a v m ram l ram′ l′ r =
     (r ≡ outcome (machineOf (m .frames) (m .base) (m .ready && not (inTable m l a))) Done) × (ram′ ≡ storedAt ram (a - m .base) v) × (l′ ≡ l)
 Writes false a v m ram l ram′ l′ r = Says OutsideRam m ram l ram′ l′ r
 
--- "the operation's answer, a number": what the monitor does is done in the machine's parts of the slices
+-- "the operation's answer, a number": the monitor works in the machine's parts of the slices, and leaves the rest
 pub record Operated (o : Operation) (m : Machine) (ram l : List ℕ) (k : ℕ) (ram′ l′ : List ℕ) : Type 0 where
   pub answers : Answers (operation o) (ramOf m ram) (ledgerOf m l) k (ramOf m ram′) (ledgerOf m l′)
   pub ram-rest : drop (4096 * m .frames) ram′ ≡ drop (4096 * m .frames) ram

@@ -1,4 +1,4 @@
-// `word` and `peek`: eight bytes at a physical address. A word in a table is nothing that the ledger knows of.
+// `word` and `peek`: eight bytes at a physical address. After a word in a table the monitor can count on RAM and ledger no longer.
 ghost use mathlib.Core.Path.{_≡_};
 ghost use mathlib.Core.Bool.{true, not, _&&_, _||_};
 ghost use Prim.Native.Nat.{_+_, _*_, _/_, _^_, _<_, _≤_};
