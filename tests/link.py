@@ -16,7 +16,7 @@ HERE = pathlib.Path(__file__).resolve().parent.parent
 # The examples, in C and in Rust, and what each prints.
 EXAMPLES = {"walk": "0x40001abc fetched 4\n", "monitor": "0x40008abc fetched 4\ntake answers 13\n"}
 HOST_TESTS = {"walks", "sizes", "worked_image", "operations", "wrong_answers", "cases::section_5", "cases::runs_out", "cases::set_up",
-              "cases::questions"}
+              "cases::questions", "cases::most_frames"}
 STRICT = ["-Wall", "-Wextra", "-pedantic", "-Werror"]
 
 

@@ -5,7 +5,7 @@ use crate::document_03::{Kind, Monitor};
 use crate::run::{Run, Seen};
 use crate::steps::Operation::{self, *};
 use crate::Shape;
-use pageledger::{answer, ledger_words, Answer, Frame, Guest, Refusal, Shared};
+use pageledger::{answer, ledger_words, Access, Answer, Frame, Guest, Refusal, Shared};
 
 /// Runs operations with their answers on the library, each held to all that a random one is held to.
 fn answers(shape: Shape, script: &[(Operation, u64)], then: impl FnOnce(&pageledger::Monitor)) {
@@ -129,6 +129,32 @@ fn set_up() {
     for n in [0, 15, 65_536, 65_537] {
         set_up_once(Shape { n, b: 0x40000000, k: n / 2 }, 4096 * n as usize, ledger_words(n));
     }
+}
+
+/// The most frames, with the highest addresses, and a page that is mapped in many places.
+#[test]
+fn most_frames() {
+    let (n, end) = (65_536, 1 << 48);
+    let (mut ram, mut ledger) = (vec![0; 4096 * n as usize], vec![0; ledger_words(n)]);
+    let mut monitor = pageledger::Monitor::set_up(&mut ram, &mut ledger, n, end - 4096 * n, 1).expect("numbers that fit");
+    assert_eq!(monitor.create(4), Ok(()));
+    assert_eq!(monitor.give(n, 4), Err(Refusal::NoFrame));
+    assert_eq!(monitor.give(n - 1, 4), Ok(()));
+    assert_eq!(monitor.map(n - 1, 4, end - 4096, 7), Ok(()));
+    let last = Answer::Found { address: end - 1, fetched: 4 };
+    assert_eq!(monitor.translation(4, end - 1, Access::Execute), last);
+    assert_eq!(monitor.store(4, end - 4, b"last"), Ok(()));
+    assert!(monitor.ram().bytes.ends_with(b"last"));
+    for place in 0..2000 {
+        assert_eq!(monitor.map(n - 1, 4, 4096 * place, 1), Ok(()));
+    }
+    assert_eq!(monitor.frame(n - 1), Some(Frame::Page { owner: 4, places: 2001 }));
+    assert_eq!(monitor.unmap(end - 4096, 4), Ok(()));
+    assert_eq!(monitor.take(n - 1, 4), Err(Refusal::StillUsed));
+    assert_eq!(monitor.destroy(4), Ok(()));
+    assert_eq!(monitor.frame(n - 1), Some(Frame::Draining { of: 4 }));
+    assert_eq!(monitor.invalidated(4), Ok(()));
+    assert!((1..n).all(|f| monitor.frame(f) == Some(Frame::Free)));
 }
 
 /// The numbers of the header's answers, from the document's ledger.

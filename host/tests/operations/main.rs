@@ -81,6 +81,11 @@ fn possible() -> Seen {
     let maps = (0..4).map(|tables| format!("map made {tables} tables"));
     let refused = (0..3).map(|free| format!("map was refused with {free} free frames"));
     let others = [
+        "give was refused the monitor's frame",
+        "give was refused a table",
+        "give was refused a page",
+        "give was refused a table that drains",
+        "give was refused a page that drains",
         "take left a page draining",
         "take left a page free",
         "a page was got back",

@@ -114,6 +114,16 @@ impl<'a, S: Subject> Run<'a, S> {
         match (operation, answer) {
             (Operation::Map { .. }, 0) => self.count(format!("map made {} tables", free - self.document.free())),
             (Operation::Map { .. }, 3) => self.count(format!("map was refused with {free} free frames")),
+            (Operation::Give { f, .. }, 6) => {
+                let what = match self.document.frames[f as usize] {
+                    Kind::Monitor => "the monitor's frame",
+                    Kind::Table { .. } => "a table",
+                    Kind::Page(_) => "a page",
+                    Kind::Draining { was_table: true, .. } => "a table that drains",
+                    _ => "a page that drains",
+                };
+                self.count(format!("give was refused {what}"));
+            }
             (Operation::Take { .. }, 0) => {
                 let drains = free == self.document.free();
                 self.count(format!("take left a page {}", if drains { "draining" } else { "free" }));

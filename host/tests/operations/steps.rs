@@ -180,10 +180,18 @@ impl Steps<'_> {
         Operation::Take { f, g }
     }
 
+    /// Mostly a free frame, and of the others often one that drains.
     fn give(&mut self) -> Operation {
         let any = self.any_frame();
-        let free = (0..self.document.frames.len() as u64).filter(|f| self.document.frames[*f as usize] == Kind::Free).collect();
-        let good = if self.random.one_in(6) { any } else { self.one_of(free, any) };
+        let which = self.random.below(8);
+        let wanted = |kind: &Kind| match which {
+            0 => true,
+            1 => matches!(kind, Kind::Draining { was_table: true, .. }),
+            2 => matches!(kind, Kind::Draining { was_table: false, .. }),
+            _ => *kind == Kind::Free,
+        };
+        let frames = (0..self.document.frames.len() as u64).filter(|f| wanted(&self.document.frames[*f as usize])).collect();
+        let good = self.one_of(frames, any);
         Operation::Give { f: self.or_hostile(good), g: self.guest() }
     }
 
