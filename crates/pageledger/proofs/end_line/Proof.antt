@@ -7,7 +7,7 @@ use Rattle.pageledger.proofs.end_line.Statement.{statement}
 use Rattle.pageledger.proofs.end_line.Tie as tie
 
 slice-aggregate-answer-line : tie.Need-slice-aggregate-answer-line
-slice-aggregate-answer-line c = sym (length-take-le (c .before .before .before .before .before .args .s .line) (c .before .before .before .before .before .args .line .now) (c .before .before .before .before .before .pre .gathered))
+slice-aggregate-answer-line c = sym (length-take-le (c .before .before .before .before .before .before .args .s .line) (c .before .before .before .before .before .before .args .line .now) (c .before .before .before .before .before .before .pre .gathered))
 
 sub-answer-line : tie.Need-sub-answer-line
 sub-answer-line c = search needs
@@ -33,6 +33,9 @@ same-length c = search needs
 same-length-2 : tie.Need-same-length-2
 same-length-2 c = search needs
 
+same-length-3 : tie.Need-same-length-3
+same-length-3 c = search needs
+
 returns : tie.Need-returns
 returns c = search needs
 
@@ -49,4 +52,5 @@ end-line-spec =
     flushed-requires
     same-length
     same-length-2
+    same-length-3
     returns)

@@ -2,7 +2,9 @@
 -- Ready before each turn; the turns fall.
 use Prim.Native.Nat.{ℕ, _≤_}
 use mathlib.Core.Path.{_≡_, refl, _∙_}
+use mathlib.Core.List.{List}
 use lib.ListN.{length}
+use Rattle.machine.specs.Laws.{kept-none}
 use Rattle.pageledger.specs.declared.State.{State}
 use Rattle.pageledger.specs.declared.Turn.{Turn}
 use Rattle.pageledger.specs.declared.Turn.the-variants.{More}
@@ -13,25 +15,31 @@ use Rattle.pageledger.proofs.serve.Statement.{statement}
 use Rattle.pageledger.proofs.serve.Tie as tie
 
 abbrev Inv-loop : tie.InvT-loop
-Inv-loop line₀ ram₀ out₀ s₀ turns₀ line ram out s turns =
-    (length line ≡ length line₀) × (length ram ≡ length ram₀) × (length out ≡ length out₀)
-    × Ready s (length line₀) (length ram₀) (length out₀)
+Inv-loop line₀ ram₀ ledger₀ out₀ s₀ turns₀ line ram ledger out s turns =
+    (length line ≡ length line₀) × (length ram ≡ length ram₀) × (length ledger ≡ length ledger₀) × (length out ≡ length out₀)
+    × Ready s (length line₀) ram ledger (length out₀)
 
 abbrev μ-loop : tie.MeasureT-loop
-μ-loop line₀ ram₀ out₀ s₀ turns₀ line ram out s turns = turns
+μ-loop line₀ ram₀ ledger₀ out₀ s₀ turns₀ line ram ledger out s turns = turns
 
-goes : {r : Turn} {s : State} (line ram out : ℕ) → r ≡ More s → Goes r line ram out → Ready s line ram out
-goes line ram out e g = rw e at g
+goes : {r : Turn} {s : State} (line : ℕ) (ram ledger : List ℕ) (out : ℕ) → r ≡ More s → Goes r line ram ledger out → Ready s line ram ledger out
+goes line ram ledger out e g = rw e at g
 
 no-machine-requires : tie.Need-no-machine-requires Inv-loop μ-loop
 no-machine-requires c κs = search needs
 
 loop-holds : tie.Need-loop-holds Inv-loop μ-loop
-loop-holds c = (refl, refl, refl, record { gathered = omega arith; within = omega arith; room = omega arith })
+loop-holds c = (
+  refl,
+  refl,
+  refl,
+  refl,
+  record { gathered = omega arith; kept = kept-none _ _ _ (c .no-machine .ensures .0) (c .no-machine .ensures .2); room = omega (arith, c .before .before .before .before .before .pre) },
+)
 
 read-some-requires : tie.Need-read-some-requires Inv-loop μ-loop
-read-some-requires c κs = let r = c .before .before .before .before .loop .inv .3 in
-    record { gathered = omega (arith, r .gathered); within = omega (arith, r .within); room = omega (arith, r .room) }
+read-some-requires c κs = let r = c .before .before .before .before .before .loop .inv .4 in
+    record { gathered = omega (arith, r .gathered); kept = r .kept; room = omega (arith, r .room) }
 
 enum-known-t : tie.Need-enum-known-t Inv-loop μ-loop
 enum-known-t c = search needs
@@ -40,13 +48,16 @@ enum-told : tie.Need-enum-told Inv-loop μ-loop
 enum-told c = search needs
 
 same-length : tie.Need-same-length Inv-loop μ-loop
-same-length c = c .before .before .before .before .before .before .before .before .read-some .kept .1 .0 ∙ c .before .before .before .before .before .before .before .before .before .before .before .before .before .loop .inv .0
+same-length c = c .before .before .before .before .before .before .before .before .before .before .read-some .kept .1 .0 ∙ c .before .before .before .before .before .before .before .before .before .before .before .before .before .before .before .before .loop .inv .0
 
 same-length-2 : tie.Need-same-length-2 Inv-loop μ-loop
-same-length-2 c = c .before .before .before .before .before .before .before .before .read-some .kept .1 .1 .0 ∙ c .before .before .before .before .before .before .before .before .before .before .before .before .before .loop .inv .1
+same-length-2 c = c .before .before .before .before .before .before .before .before .before .before .read-some .kept .1 .1 .0 ∙ c .before .before .before .before .before .before .before .before .before .before .before .before .before .before .before .before .loop .inv .1
 
 same-length-3 : tie.Need-same-length-3 Inv-loop μ-loop
-same-length-3 c = c .before .before .before .before .before .before .before .before .read-some .kept .1 .1 .1 .0 ∙ c .before .before .before .before .before .before .before .before .before .before .before .before .before .loop .inv .2
+same-length-3 c = c .before .before .before .before .before .before .before .before .before .before .read-some .kept .1 .1 .1 .0 ∙ c .before .before .before .before .before .before .before .before .before .before .before .before .before .before .before .before .loop .inv .2
+
+same-length-4 : tie.Need-same-length-4 Inv-loop μ-loop
+same-length-4 c = c .before .before .before .before .before .before .before .before .before .before .read-some .kept .1 .1 .1 .1 .0 ∙ c .before .before .before .before .before .before .before .before .before .before .before .before .before .before .before .before .loop .inv .3
 
 returns : tie.Need-returns Inv-loop μ-loop
 returns c = search needs
@@ -58,21 +69,25 @@ loop-less : tie.Need-loop-less Inv-loop μ-loop
 loop-less c = search needs
 
 loop-again : tie.Need-loop-again Inv-loop μ-loop
-loop-again c = let r = goes _ _ _ (c .before .t .given .1) (c .before .before .before .before .before .before .before .before .before .read-some .ensures) in (
-  c .before .before .before .before .before .before .before .before .before .read-some .kept .1 .0 ∙ c .before .before .before .before .before .before .before .before .before .before .before .before .before .before .loop .inv .0,
-  c .before .before .before .before .before .before .before .before .before .read-some .kept .1 .1 .0 ∙ c .before .before .before .before .before .before .before .before .before .before .before .before .before .before .loop .inv .1,
-  c .before .before .before .before .before .before .before .before .before .read-some .kept .1 .1 .1 .0 ∙ c .before .before .before .before .before .before .before .before .before .before .before .before .before .before .loop .inv .2,
-  record { gathered = omega (arith, r .gathered); within = omega (arith, r .within); room = omega (arith, r .room) },
+loop-again c = let r = goes _ _ _ _ (c .before .t .given .1) (c .before .before .before .before .before .before .before .before .before .before .before .read-some .ensures) in (
+  c .before .before .before .before .before .before .before .before .before .before .before .read-some .kept .1 .0 ∙ c .before .before .before .before .before .before .before .before .before .before .before .before .before .before .before .before .before .loop .inv .0,
+  c .before .before .before .before .before .before .before .before .before .before .before .read-some .kept .1 .1 .0 ∙ c .before .before .before .before .before .before .before .before .before .before .before .before .before .before .before .before .before .loop .inv .1,
+  c .before .before .before .before .before .before .before .before .before .before .before .read-some .kept .1 .1 .1 .0 ∙ c .before .before .before .before .before .before .before .before .before .before .before .before .before .before .before .before .before .loop .inv .2,
+  c .before .before .before .before .before .before .before .before .before .before .before .read-some .kept .1 .1 .1 .1 .0 ∙ c .before .before .before .before .before .before .before .before .before .before .before .before .before .before .before .before .before .loop .inv .3,
+  record { gathered = omega (arith, r .gathered); kept = r .kept; room = omega (arith, r .room) },
 )
 
-same-length-4 : tie.Need-same-length-4 Inv-loop μ-loop
-same-length-4 c = c .before .loop .inv .0
-
 same-length-5 : tie.Need-same-length-5 Inv-loop μ-loop
-same-length-5 c = c .before .loop .inv .1
+same-length-5 c = c .before .loop .inv .0
 
 same-length-6 : tie.Need-same-length-6 Inv-loop μ-loop
-same-length-6 c = c .before .loop .inv .2
+same-length-6 c = c .before .loop .inv .1
+
+same-length-7 : tie.Need-same-length-7 Inv-loop μ-loop
+same-length-7 c = c .before .loop .inv .2
+
+same-length-8 : tie.Need-same-length-8 Inv-loop μ-loop
+same-length-8 c = c .before .loop .inv .3
 
 returns-2 : tie.Need-returns-2 Inv-loop μ-loop
 returns-2 c = search needs
@@ -91,11 +106,13 @@ serve-spec =
     same-length
     same-length-2
     same-length-3
+    same-length-4
     returns
     sub-turns
     loop-less
     loop-again
-    same-length-4
     same-length-5
     same-length-6
+    same-length-7
+    same-length-8
     returns-2)

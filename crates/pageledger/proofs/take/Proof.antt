@@ -17,20 +17,23 @@ same-length-2 c = search needs
 same-length-3 : tie.Need-same-length-3
 same-length-3 c = search needs
 
+same-length-4 : tie.Need-same-length-4
+same-length-4 c = search needs
+
 returns : tie.Need-returns
 returns c = search needs
 
 gather-requires : tie.Need-gather-requires
 gather-requires c κs = search needs
 
-same-length-4 : tie.Need-same-length-4
-same-length-4 c = search needs
+same-length-5 : tie.Need-same-length-5
+same-length-5 c = search needs
 
 returns-2 : tie.Need-returns-2
 returns-2 c = record {
   gathered = c .before .before .gather .ensures .0;
-  within = rw (c .before .before .gather .ensures .1) (c .before .before .before .before .before .before .before .before .pre .within);
-  room = omega (arith, c .before .before .gather .ensures .2, c .before .before .before .before .before .before .before .before .pre .room);
+  kept = rw (c .before .before .gather .ensures .1) (c .before .before .before .before .before .before .before .before .before .pre .kept);
+  room = omega (arith, c .before .before .gather .ensures .2, c .before .before .before .before .before .before .before .before .before .pre .room);
 }
 
 pub take-spec : {M : Type 1} → statement M
@@ -41,7 +44,8 @@ take-spec =
     same-length
     same-length-2
     same-length-3
+    same-length-4
     returns
     gather-requires
-    same-length-4
+    same-length-5
     returns-2)
