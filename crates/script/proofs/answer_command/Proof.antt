@@ -1,9 +1,7 @@
 -- Written by tools/prove from the file answers beside it: edit that, and not this.
 -- The command's outcome, and its text.
-use mathlib.Core.Path.{ap, _∙_}
-use Rattle.machine.specs.declared.Outcome.{Outcome}
-use Rattle.script.specs.Line.{replyText}
-use Rattle.script.specs.Answers.{machineAfter, sliceAfter, textAfter}
+use mathlib.Core.Path.{refl}
+use Rattle.machine.specs.Laws.{tellable}
 use borrow.Author.Needs.{needs}
 use native.Mathlib.Omega.{arith}
 use Rattle.script.proofs.answer_command.Statement.{statement}
@@ -13,7 +11,7 @@ execute-requires : tie.Need-execute-requires
 execute-requires c κs = search needs
 
 put-reply-requires : tie.Need-put-reply-requires
-put-reply-requires c κs = search needs
+put-reply-requires c κs = (c .before .before .before .before .before .before .before .before .execute .ensures .kept, tellable (c .before .before .before .before .before .before .before .before .execute .ensures), omega (arith, c .before .before .before .before .before .before .before .before .execute .ensures .kept .within, c .before .before .before .before .before .before .before .before .execute .kept))
 
 same-length : tie.Need-same-length
 same-length c = search needs
@@ -21,13 +19,13 @@ same-length c = search needs
 same-length-2 : tie.Need-same-length-2
 same-length-2 c = search needs
 
+same-length-3 : tie.Need-same-length-3
+same-length-3 c = search needs
+
 returns : tie.Need-returns
-unfolding machineAfter sliceAfter textAfter
 returns c = record {
-  machine-after = ap (λ (o : Outcome). o .machine) (c .before .before .before .before .before .before .before .execute .ensures .answered);
-  slice-after = c .before .before .before .before .before .before .before .execute .ensures .left;
-  text = c .before .before .put-reply .ensures .there ∙ ap (λ (o : Outcome). replyText (o .reply)) (c .before .before .before .before .before .before .before .execute .ensures .answered);
-  within = c .before .before .before .before .before .before .before .execute .ensures .within;
+  did = (_, c .before .before .before .before .before .before .before .before .before .before .before .execute .ensures, c .before .before .put-reply .ensures .there);
+  kept = c .before .before .before .before .before .before .before .before .before .before .before .execute .ensures .kept;
   short = omega (arith, c .before .before .put-reply .ensures .near);
 }
 
@@ -39,4 +37,5 @@ answer-command-spec =
     put-reply-requires
     same-length
     same-length-2
+    same-length-3
     returns)

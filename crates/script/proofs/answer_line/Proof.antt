@@ -1,7 +1,6 @@
 -- Written by tools/prove from the file answers beside it: edit that, and not this.
 -- By what the line is.
 use mathlib.Core.Path.{refl, _∙_, sym}
-use Rattle.script.specs.Answers.{machineAfter, sliceAfter, textAfter}
 use borrow.Author.Needs.{needs}
 use native.Mathlib.Omega.{arith}
 use Rattle.script.proofs.answer_line.Statement.{statement}
@@ -26,9 +25,8 @@ put-mistake-requires : tie.Need-put-mistake-requires
 put-mistake-requires c κs = search needs
 
 returns : tie.Need-returns
-unfolding machineAfter sliceAfter textAfter
 returns c = rw (sym (c .before .before .read-line .ensures) ∙ c .enum-told .given .1)
-    (record { machine-after = refl; slice-after = refl; text = refl; within = c .before .before .before .before .before .before .pre .0; short = omega arith })
+    (record { did = (refl, refl, refl, refl); kept = c .before .before .before .before .before .before .before .pre .0; short = omega arith })
 
 same-length : tie.Need-same-length
 same-length c = search needs
@@ -36,20 +34,20 @@ same-length c = search needs
 same-length-2 : tie.Need-same-length-2
 same-length-2 c = search needs
 
-returns-2 : tie.Need-returns-2
-returns-2 c = rw (sym (c .before .before .before .before .before .before .before .before .before .before .read-line .ensures) ∙ c .before .before .before .before .before .before .before .before .c .given .1) (c .before .before .before .before .answer-command .ensures)
-
 same-length-3 : tie.Need-same-length-3
 same-length-3 c = search needs
 
+returns-2 : tie.Need-returns-2
+returns-2 c = rw (sym (c .before .before .before .before .before .before .before .before .before .before .before .before .before .read-line .ensures) ∙ c .before .before .before .before .before .before .before .before .before .before .before .c .given .1) (c .before .before .before .before .before .before .answer-command .ensures)
+
+same-length-4 : tie.Need-same-length-4
+same-length-4 c = search needs
+
 returns-3 : tie.Need-returns-3
-unfolding machineAfter sliceAfter textAfter
 returns-3 c = rw (sym (c .before .before .before .before .before .before .before .read-line .ensures) ∙ c .before .before .before .before .before .why .given .1)
     (record {
-      machine-after = refl;
-      slice-after = refl;
-      text = c .before .before .put-mistake .ensures .there;
-      within = c .before .before .before .before .before .before .before .before .before .before .before .pre .0;
+      did = (refl, refl, refl, c .before .before .put-mistake .ensures .there);
+      kept = c .before .before .before .before .before .before .before .before .before .before .before .before .pre .0;
       short = omega (arith, c .before .before .put-mistake .ensures .near);
     })
 
@@ -66,6 +64,7 @@ answer-line-spec =
     returns
     same-length
     same-length-2
-    returns-2
     same-length-3
+    returns-2
+    same-length-4
     returns-3)

@@ -1,11 +1,24 @@
 -- Written by tools/prove from the file answers beside it: edit that, and not this.
--- Part after part, and the line's end.
+-- Part after part, and the line's end. A frame and the ledger are told of a machine that is ready.
+use mathlib.Core.Path.{_≡_}
+use mathlib.Core.Bool.{true}
+use Prim.Native.Nat.{ℕ}
+use Rattle.machine.specs.declared.Machine.{Machine}
+use Rattle.machine.specs.declared.Reply.{Reply}
+use Rattle.machine.specs.declared.Reply.the-variants.{Frame, Ledger}
+use Rattle.machine.specs.Laws.{Tellable}
 use Rattle.script.specs.Line.{replyText}
 use Rattle.text.proofs.Printing.{wrote-then, wrote-within}
 use borrow.Author.Needs.{needs}
 use native.Mathlib.Omega.{arith}
 use Rattle.script.proofs.print.put_reply.Statement.{statement}
 use Rattle.script.proofs.print.put_reply.Tie as tie
+
+frame-ready : (m : Machine) (x : Reply) (f : ℕ) → x ≡ Frame f → Tellable m x → m .ready ≡ true
+frame-ready m x f e t = rw e at t
+
+ledger-ready : (m : Machine) (x : Reply) → x ≡ Ledger → Tellable m x → m .ready ≡ true
+ledger-ready m x e t = rw e at t
 
 enum-told : tie.Need-enum-told
 enum-told c = search needs
@@ -61,6 +74,39 @@ slice-aggregate-put-5 c = search needs
 put-requires-5 : tie.Need-put-requires-5
 put-requires-5 c κs = search needs
 
+enum-known-reply-4 : tie.Need-enum-known-reply-4
+enum-known-reply-4 c = search needs
+
+put-frame-line-requires : tie.Need-put-frame-line-requires
+put-frame-line-requires c κs = (c .before .before .before .before .before .before .before .pre .0, frame-ready _ _ _ (c .before .before .reply4 .given .1) (c .before .before .before .before .before .before .before .pre .1), omega arith)
+
+enum-known-reply-5 : tie.Need-enum-known-reply-5
+enum-known-reply-5 c = search needs
+
+put-guest-requires : tie.Need-put-guest-requires
+put-guest-requires c κs = search needs
+
+slice-aggregate-put-6 : tie.Need-slice-aggregate-put-6
+slice-aggregate-put-6 c = search needs
+
+put-requires-6 : tie.Need-put-requires-6
+put-requires-6 c κs = search needs
+
+enum-told-3 : tie.Need-enum-told-3
+enum-told-3 c = search needs
+
+put-whole-ledger-requires : tie.Need-put-whole-ledger-requires
+put-whole-ledger-requires c κs = (c .before .before .before .before .before .before .pre .0, ledger-ready _ _ (c .before .enum-told3 .given .1) (c .before .before .before .before .before .before .pre .1), omega arith)
+
+enum-told-4 : tie.Need-enum-told-4
+enum-told-4 c = search needs
+
+slice-aggregate-put-7 : tie.Need-slice-aggregate-put-7
+slice-aggregate-put-7 c = search needs
+
+put-requires-7 : tie.Need-put-requires-7
+put-requires-7 c κs = search needs
+
 same-length : tie.Need-same-length
 same-length c = search needs
 
@@ -96,6 +142,32 @@ returns-5 : tie.Need-returns-5
 unfolding replyText
 returns-5 c = wrote-within (wrote-then (c .before .before .before .before .before .before .before .put-answer .ensures) (c .before .before .put5 .ensures)) (omega arith) (rw (c .before .before .before .before .before .before .before .before .before .before .reply3 .given .1))
 
+same-length-6 : tie.Need-same-length-6
+same-length-6 c = search needs
+
+returns-6 : tie.Need-returns-6
+returns-6 c = wrote-within (c .before .before .put-frame-line .ensures) (omega arith) (rw (c .before .before .before .before .before .reply4 .given .1))
+
+same-length-7 : tie.Need-same-length-7
+same-length-7 c = search needs
+
+returns-7 : tie.Need-returns-7
+unfolding replyText
+returns-7 c = wrote-within (wrote-then (c .before .before .before .before .before .before .before .put-guest .ensures) (c .before .before .put6 .ensures)) (omega arith) (rw (c .before .before .before .before .before .before .before .before .before .before .reply5 .given .1))
+
+same-length-8 : tie.Need-same-length-8
+same-length-8 c = search needs
+
+returns-8 : tie.Need-returns-8
+returns-8 c = wrote-within (c .before .before .put-whole-ledger .ensures) (omega arith) (rw (c .before .before .before .before .enum-told3 .given .1))
+
+same-length-9 : tie.Need-same-length-9
+same-length-9 c = search needs
+
+returns-9 : tie.Need-returns-9
+unfolding replyText
+returns-9 c = wrote-within (c .before .before .put7 .ensures) (omega arith) (rw (c .before .before .before .before .before .enum-told4 .given .1))
+
 pub put-reply-spec : {M : Type 1} → statement M
 put-reply-spec =
     tie.close
@@ -118,6 +190,17 @@ put-reply-spec =
     put-answer-requires
     slice-aggregate-put-5
     put-requires-5
+    enum-known-reply-4
+    put-frame-line-requires
+    enum-known-reply-5
+    put-guest-requires
+    slice-aggregate-put-6
+    put-requires-6
+    enum-told-3
+    put-whole-ledger-requires
+    enum-told-4
+    slice-aggregate-put-7
+    put-requires-7
     same-length
     returns
     same-length-2
@@ -127,4 +210,12 @@ put-reply-spec =
     same-length-4
     returns-4
     same-length-5
-    returns-5)
+    returns-5
+    same-length-6
+    returns-6
+    same-length-7
+    returns-7
+    same-length-8
+    returns-8
+    same-length-9
+    returns-9)

@@ -1,0 +1,58 @@
+-- Written by tools/prove from the file answers beside it: edit that, and not this.
+-- The slices have the machine's parts.
+use Prim.Native.Nat.{_+_, _*_}
+use lib.Seq.{length-take-le}
+use Rattle.machine.specs.Laws.{ledger-within}
+use Rattle.script.specs.Line.{replyText}
+use Rattle.text.proofs.Printing.{wrote-then}
+use borrow.Author.Needs.{needs}
+use native.Mathlib.Omega.{arith}
+use mathlib.Core.Path.{sym}
+use Rattle.script.proofs.print.put_frame_line.Statement.{statement}
+use Rattle.script.proofs.print.put_frame_line.Tie as tie
+
+mul-n : tie.Need-mul-n
+mul-n c = search needs
+
+mul-w : tie.Need-mul-w
+mul-w c = search needs
+
+add-w : tie.Need-add-w
+add-w c = search needs
+
+slice-aggregate-put-frame : tie.Need-slice-aggregate-put-frame
+slice-aggregate-put-frame c = sym (length-take-le (4096 * c .before .before .before .before .before .before .before .args .m .frames) (c .before .before .before .before .before .before .before .args .ram .now) (c .before .before .before .before .before .before .before .pre .0 .within))
+
+slice-aggregate-put-frame-2 : tie.Need-slice-aggregate-put-frame-2
+slice-aggregate-put-frame-2 c = sym (length-take-le (144 + 16 * c .before .before .before .before .before .before .before .before .args .m .frames) (c .before .before .before .before .before .before .before .before .args .ledger .now) (ledger-within (c .before .before .before .before .before .before .before .before .pre .0) (c .before .before .before .before .before .before .before .before .pre .1)))
+
+put-frame-requires : tie.Need-put-frame-requires
+put-frame-requires c κs = (c .before .before .before .before .before .before .before .before .pre .0 .sound (c .before .before .before .before .before .before .before .before .pre .1), omega arith)
+
+slice-aggregate-put : tie.Need-slice-aggregate-put
+slice-aggregate-put c = search needs
+
+put-requires : tie.Need-put-requires
+put-requires c κs = search needs
+
+same-length : tie.Need-same-length
+same-length c = search needs
+
+returns : tie.Need-returns
+unfolding replyText
+returns c = wrote-then (c .before .before .before .before .before .before .before .put-frame .ensures) (c .before .before .put .ensures)
+
+pub put-frame-line-spec : {M : Type 1} → statement M
+put-frame-line-spec =
+    tie.close
+    (tie.spec
+    mul-n
+    mul-w
+    add-w
+    slice-aggregate-put-frame
+    slice-aggregate-put-frame-2
+    put-frame-requires
+    slice-aggregate-put
+    put-requires
+    same-length
+    returns)
