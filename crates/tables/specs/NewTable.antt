@@ -22,16 +22,25 @@ use Rattle.ledger.specs.Stock.{Taken}
 use Rattle.ledger.specs.Words.{Within, state-words}
 use Rattle.ledger.specs.Sound.{Sound, free-of, free-is, within}
 
--- "Tables are filled with zeros before they are linked in": entry i of table t may lead to u once the ledger has u as a table of the same guest,
--- for what that entry serves, and all its words are 0.
-pub record Linkable (m l : List ℕ) (t i u : ℕ) : Type 0 where
+-- u is, in the ledger, the table that entry i of table t is to lead to: of the same guest, for what that entry serves
+pub record Placed (l : List ℕ) (t i u : ℕ) : Type 0 where
   pub guest : ℕ
   pub height : ℕ
   pub range : ℕ
   pub above : kind-of l t ≡ table guest (suc height) (range / 512)
   pub below : kind-of l u ≡ table guest height range
   pub place : i ≡ range % 512
-  pub cleared : (j : ℕ) → word-of m u j ≡ 0
+
+-- "Tables are filled with zeros before they are linked in"
+pub record Blank (m : List ℕ) (u : ℕ) : Type 0 where
+  pub zero-at : (j : ℕ) → word-of m u j ≡ 0
+
+pub blank : (m m₁ : List ℕ) (u : ℕ) → word-of m₁ ≡ upd (word-of m) u zeros → Blank m₁ u
+unfolding zeros
+blank m m₁ u e = record { zero-at = λ j. ap (λ (x : ℕ → ℕ → ℕ). x u j) e ∙ ap (λ (x : ℕ → ℕ). x j) (upd-same (word-of m) u zeros) }
+
+pub then-linked : (m m₁ m₂ : List ℕ) (u t i x : ℕ) → word-of m₁ ≡ upd (word-of m) u zeros → word-of m₂ ≡ upd2 (word-of m₁) t i x → word-of m₂ ≡ upd2 (upd (word-of m) u zeros) t i x
+then-linked m m₁ m₂ u t i x e q = q ∙ ap (λ (X : ℕ → ℕ → ℕ). upd2 X t i x) e
 
 -- where the doing stands: h tables are missing below t
 pub record Growing (m l : List ℕ) (g v h t : ℕ) : Type 0 where
@@ -92,18 +101,17 @@ module _ (m l : List ℕ) (g v k t : ℕ) (w : Growing m l g v (suc k) t) (p u :
   unfolding upper
   one-up = ap (λ (x : ℕ). x / 512) (sym ep)
 
-  linkable-new : (m₁ : List ℕ) → word-of m₁ ≡ upd (word-of m) u zeros → Linkable m₁ l′ t (p % 512) u
-  linkable-new m₁ w1 = record {
+  placed-new : Placed l′ t (p % 512) u
+  placed-new = record {
     guest = g;
     height = k;
     range = p;
     above = ap (λ (x : ℕ → Kind). x t) kinds ∙ upd-other (kind-of l) u (table g k p) t apart ∙ serving ∙ ap (table g (suc k)) one-up;
     below = ap (λ (x : ℕ → Kind). x u) kinds ∙ upd-same (kind-of l) u (table g k p);
     place = refl;
-    cleared = λ j. ap (λ (x : ℕ → ℕ → ℕ). x u j) w1 ∙ ap (λ (x : ℕ → ℕ). x j) (upd-same (word-of m) u zeros) ∙ (unfold zeros in refl);
   }
 
-  module _ (eu : u ≡ pick-of l 0) (m₁ m′ : List ℕ) (w1 : word-of m₁ ≡ upd (word-of m) u zeros) (w2 : word-of m′ ≡ upd2 (word-of m₁) t (p % 512) (table-entry (first-of l′) u)) (len : length m′ ≡ length m) where
+  module _ (eu : u ≡ pick-of l 0) (m′ : List ℕ) (w2 : word-of m′ ≡ upd2 (upd (word-of m) u zeros) t (p % 512) (table-entry (first-of l′) u)) (len : length m′ ≡ length m) where
     abbrev s : State
     s = state-of m l
 
@@ -115,8 +123,7 @@ module _ (m l : List ℕ) (g v k t : ℕ) (w : Growing m l g v (suc k) t) (p u :
 
     words : word-of m′ ≡ W
     words =
-        w2 ∙ ap (λ (X : ℕ → ℕ → ℕ). upd2 X t (p % 512) (table-entry (first-of l′) u)) w1
-        ∙ ap (λ (y : ℕ). upd2 (upd (word-of m) u zeros) t (y % 512) (table-entry (first-of l′) u)) ep
+        w2 ∙ ap (λ (y : ℕ). upd2 (upd (word-of m) u zeros) t (y % 512) (table-entry (first-of l′) u)) ep
         ∙ ap (λ (y : ℕ). upd2 (upd (word-of m) u zeros) t (index (suc k) v) (table-entry y u)) first-is
 
     same : with-kind u (table g k (upper (suc k) v)) (with-words W s) ≡ s′
@@ -193,8 +200,8 @@ module _ (m l : List ℕ) (g v h t : ℕ) (w : Growing m l g v h t) (pos : 0 < h
     upper-so : p ≡ upper (suc (h - 1)) v
     upper-so = ep ∙ ap (λ (y : ℕ). upper y v) high-is
 
-    pub make-linkable : (m₁ : List ℕ) → word-of m₁ ≡ upd (word-of m) u zeros → Linkable m₁ l′ t (p % 512) u
-    make-linkable m₁ w1 = linkable-new m l g v (h - 1) t growing-so p u upper-so low-u free-u l′ taken m₁ w1
+    pub make-placed : Placed l′ t (p % 512) u
+    make-placed = placed-new m l g v (h - 1) t growing-so p u upper-so low-u free-u l′ taken
 
     pub make-room : first-of l′ + u < 2 ^ 36
     make-room =
@@ -202,9 +209,9 @@ module _ (m l : List ℕ) (g v h t : ℕ) (w : Growing m l g v h t) (pos : 0 < h
         let k = grow-room m l g v h t w (first-of l) u refl low-u in
         omega arith
 
-    pub make-end : u ≡ pick-of l 0 → (m₁ m′ : List ℕ) → word-of m₁ ≡ upd (word-of m) u zeros → word-of m′ ≡ upd2 (word-of m₁) t (p % 512) (table-entry (first-of l′) u) → length m′ ≡ length m → Made m l g v h t u m′ l′
-    make-end eu m₁ m′ w1 w2 len = record {
-      growing = grown m l g v (h - 1) t growing-so p u upper-so low-u free-u l′ taken eu m₁ m′ w1 w2 len;
-      grows = ap (λ (y : ℕ). grow y (state-of m l) g t v (pick-of l)) high-is ∙ goes-on m l g v (h - 1) t growing-so p u upper-so low-u free-u l′ taken eu m₁ m′ w1 w2 len;
-      pages-stay = stay m l g v (h - 1) t growing-so p u upper-so low-u free-u l′ taken eu m₁ m′ w1 w2 len;
+    pub make-end : u ≡ pick-of l 0 → (m′ : List ℕ) → word-of m′ ≡ upd2 (upd (word-of m) u zeros) t (p % 512) (table-entry (first-of l′) u) → length m′ ≡ length m → Made m l g v h t u m′ l′
+    make-end eu m′ w2 len = record {
+      growing = grown m l g v (h - 1) t growing-so p u upper-so low-u free-u l′ taken eu m′ w2 len;
+      grows = ap (λ (y : ℕ). grow y (state-of m l) g t v (pick-of l)) high-is ∙ goes-on m l g v (h - 1) t growing-so p u upper-so low-u free-u l′ taken eu m′ w2 len;
+      pages-stay = stay m l g v (h - 1) t growing-so p u upper-so low-u free-u l′ taken eu m′ w2 len;
     }

@@ -11,19 +11,19 @@ use Rattle.tables.proofs.link.Statement.{statement}
 use Rattle.tables.proofs.link.Tie as tie
 
 first-requires : tie.Need-first-requires
-first-requires c κs = c .before .before .pre .1 .0
+first-requires c κs = c .before .before .pre .1 .1 .0
 
 add-store-entry : tie.Need-add-store-entry
-add-store-entry c = omega (arith, c .before .first .ensures, c .before .before .before .before .pre .1 .1 .1)
+add-store-entry c = omega (arith, c .before .first .ensures, c .before .before .before .before .pre .1 .1 .1 .1)
 
 mul-store-entry : tie.Need-mul-store-entry
-mul-store-entry c = omega (arith, c .before .first .ensures, c .before .before .before .before .pre .1 .1 .1)
+mul-store-entry c = omega (arith, c .before .first .ensures, c .before .before .before .before .pre .1 .1 .1 .1)
 
 add-store-entry-2 : tie.Need-add-store-entry-2
-add-store-entry-2 c = omega (arith, c .before .first .ensures, c .before .before .before .before .pre .1 .1 .1)
+add-store-entry-2 c = omega (arith, c .before .first .ensures, c .before .before .before .before .pre .1 .1 .1 .1)
 
 store-entry-requires : tie.Need-store-entry-requires
-store-entry-requires c κs = (omega (arith, c .before .before .before .before .pre .0 .place), c .before .before .before .before .pre .1 .1 .0 .0, c .before .before .before .before .pre .1 .1 .0 .1)
+store-entry-requires c κs = (omega (arith, c .before .before .before .before .pre .0 .place), c .before .before .before .before .pre .1 .1 .1 .0 .0, c .before .before .before .before .pre .1 .1 .1 .0 .1)
 
 same-length : tie.Need-same-length
 same-length c = search needs

@@ -1,8 +1,8 @@
 -- Written by tools/prove from the file answers beside it: edit that, and not this.
--- A free frame is cleared, becomes a table, and is linked in.
+-- A free frame becomes a table, is cleared, and is linked in.
 use Rattle.ledger.specs.Laws.{guest-low}
 use Rattle.ledger.specs.Sound.{within}
-use Rattle.tables.specs.NewTable.{grow-guest, grow-words, grow-range, make-linkable, make-room, make-end}
+use Rattle.tables.specs.NewTable.{grow-guest, grow-words, grow-range, make-placed, make-room, make-end}
 use borrow.Author.Needs.{needs}
 use native.Mathlib.Omega.{arith}
 use Rattle.tables.proofs.make_table.Statement.{statement}
@@ -14,34 +14,30 @@ upper-requires c κs = c .before .before .pre .0 .high
 next-requires : tie.Need-next-requires
 next-requires c κs = let k = c .before .before .before .before .pre .0 .enough in (c .before .before .before .before .pre .0 .sound .stock, omega (arith, c .before .before .before .before .pre .1))
 
-clear-frame-requires : tie.Need-clear-frame-requires
-clear-frame-requires c κs = let few = c .before .before .before .before .before .before .pre .0 .sound .stock .few in
-    (omega (arith, c .before .next .ensures .1), within (c .before .before .before .before .before .before .args .ram .now) (c .before .before .before .before .before .before .args .ledger .now) (c .before .before .before .before .before .before .pre .0 .sound) (c .before .next .result) (c .before .next .ensures .1))
-
 sub-become-table : tie.Need-sub-become-table
-sub-become-table c = omega (arith, c .before .before .before .before .before .before .before .before .before .before .pre .1)
+sub-become-table c = omega (arith, c .before .before .before .before .before .before .pre .1)
 
 become-table-requires : tie.Need-become-table-requires
-become-table-requires c κs = let k = c .before .before .before .before .before .before .before .before .before .before .pre .0 .high in (
-  c .before .before .before .before .before .before .before .before .before .before .pre .0 .sound .stock,
+become-table-requires c κs = let k = c .before .before .before .before .before .before .pre .0 .high in (
+  c .before .before .before .before .before .before .pre .0 .sound .stock,
   (
-    c .before .before .before .before .before .next .ensures .1,
+    c .before .next .ensures .1,
     (
-      c .before .before .before .before .before .next .ensures .2,
-      (guest-low (c .before .before .before .before .before .before .before .before .before .before .args .g) (grow-guest (c .before .before .before .before .before .before .before .before .before .before .args .ram .now) (c .before .before .before .before .before .before .before .before .before .before .args .ledger .now) (c .before .before .before .before .before .before .before .before .before .before .args .g) (c .before .before .before .before .before .before .before .before .before .before .args .v) (c .before .before .before .before .before .before .before .before .before .before .args .h) (c .before .before .before .before .before .before .before .before .before .before .args .t) (c .before .before .before .before .before .before .before .before .before .before .pre .0)) .1, omega arith, grow-range (c .before .before .before .before .before .before .before .before .before .before .args .ram .now) (c .before .before .before .before .before .before .before .before .before .before .args .ledger .now) (c .before .before .before .before .before .before .before .before .before .before .args .g) (c .before .before .before .before .before .before .before .before .before .before .args .v) (c .before .before .before .before .before .before .before .before .before .before .args .h) (c .before .before .before .before .before .before .before .before .before .before .args .t) (c .before .before .before .before .before .before .before .before .before .before .pre .0) (c .before .before .before .before .before .before .before .before .before .before .pre .1) (c .before .before .before .before .before .before .before .upper .result) (c .before .before .before .before .before .before .before .upper .ensures)),
+      c .before .next .ensures .2,
+      (guest-low (c .before .before .before .before .before .before .args .g) (grow-guest (c .before .before .before .before .before .before .args .ram .now) (c .before .before .before .before .before .before .args .ledger .now) (c .before .before .before .before .before .before .args .g) (c .before .before .before .before .before .before .args .v) (c .before .before .before .before .before .before .args .h) (c .before .before .before .before .before .before .args .t) (c .before .before .before .before .before .before .pre .0)) .1, omega arith, grow-range (c .before .before .before .before .before .before .args .ram .now) (c .before .before .before .before .before .before .args .ledger .now) (c .before .before .before .before .before .before .args .g) (c .before .before .before .before .before .before .args .v) (c .before .before .before .before .before .before .args .h) (c .before .before .before .before .before .before .args .t) (c .before .before .before .before .before .before .pre .0) (c .before .before .before .before .before .before .pre .1) (c .before .before .before .upper .result) (c .before .before .before .upper .ensures)),
     ),
   ),
 )
 
-link-requires : tie.Need-link-requires
-link-requires c κs = let k = grow-words (c .before .before .before .before .before .before .before .before .before .before .before .before .before .before .before .args .ram .now) (c .before .before .before .before .before .before .before .before .before .before .before .before .before .before .before .args .ledger .now) (c .before .before .before .before .before .before .before .before .before .before .before .before .before .before .before .args .g) (c .before .before .before .before .before .before .before .before .before .before .before .before .before .before .before .args .v) (c .before .before .before .before .before .before .before .before .before .before .before .before .before .before .before .args .h) (c .before .before .before .before .before .before .before .before .before .before .before .before .before .before .before .args .t) (c .before .before .before .before .before .before .before .before .before .before .before .before .before .before .before .pre .0) in
-    let k1 = k .1 in (
-      make-linkable (c .before .before .before .before .before .before .before .before .before .before .before .before .before .before .before .args .ram .now) (c .before .before .before .before .before .before .before .before .before .before .before .before .before .before .before .args .ledger .now) (c .before .before .before .before .before .before .before .before .before .before .before .before .before .before .before .args .g) (c .before .before .before .before .before .before .before .before .before .before .before .before .before .before .before .args .v) (c .before .before .before .before .before .before .before .before .before .before .before .before .before .before .before .args .h) (c .before .before .before .before .before .before .before .before .before .before .before .before .before .before .before .args .t) (c .before .before .before .before .before .before .before .before .before .before .before .before .before .before .before .pre .0) (c .before .before .before .before .before .before .before .before .before .before .before .before .before .before .before .pre .1) (c .before .before .before .before .before .before .before .before .before .before .before .before .upper .result) (c .before .before .before .before .before .before .before .before .before .before .next .result) (c .before .before .before .before .before .before .before .before .before .before .before .before .upper .ensures) (c .before .before .before .before .before .before .before .before .before .before .next .ensures .1) (c .before .before .before .before .before .before .before .before .before .before .next .ensures .2) _ (c .before .before .before .before .become-table .ensures) _ (c .before .before .before .before .before .before .before .before .clear-frame .ensures),
+clear-and-link-requires : tie.Need-clear-and-link-requires
+clear-and-link-requires c κs = let few = c .before .before .before .before .before .before .before .before .before .before .before .pre .0 .sound .stock .few in
+    let k = grow-words (c .before .before .before .before .before .before .before .before .before .before .before .args .ram .now) (c .before .before .before .before .before .before .before .before .before .before .before .args .ledger .now) (c .before .before .before .before .before .before .before .before .before .before .before .args .g) (c .before .before .before .before .before .before .before .before .before .before .before .args .v) (c .before .before .before .before .before .before .before .before .before .before .before .args .h) (c .before .before .before .before .before .before .before .before .before .before .before .args .t) (c .before .before .before .before .before .before .before .before .before .before .before .pre .0) in (
+      make-placed (c .before .before .before .before .before .before .before .before .before .before .before .args .ram .now) (c .before .before .before .before .before .before .before .before .before .before .before .args .ledger .now) (c .before .before .before .before .before .before .before .before .before .before .before .args .g) (c .before .before .before .before .before .before .before .before .before .before .before .args .v) (c .before .before .before .before .before .before .before .before .before .before .before .args .h) (c .before .before .before .before .before .before .before .before .before .before .before .args .t) (c .before .before .before .before .before .before .before .before .before .before .before .pre .0) (c .before .before .before .before .before .before .before .before .before .before .before .pre .1) (c .before .before .before .before .before .before .before .before .upper .result) (c .before .before .before .before .before .before .next .result) (c .before .before .before .before .before .before .before .before .upper .ensures) (c .before .before .before .before .before .before .next .ensures .1) (c .before .before .before .before .before .before .next .ensures .2) _ (c .before .before .before .before .become-table .ensures),
       (
         c .before .before .before .before .become-table .ensures .changes .stock,
         (
-          (k .0, omega (arith, c .before .before .before .before .before .before .before .before .clear-frame .kept)),
-          make-room (c .before .before .before .before .before .before .before .before .before .before .before .before .before .before .before .args .ram .now) (c .before .before .before .before .before .before .before .before .before .before .before .before .before .before .before .args .ledger .now) (c .before .before .before .before .before .before .before .before .before .before .before .before .before .before .before .args .g) (c .before .before .before .before .before .before .before .before .before .before .before .before .before .before .before .args .v) (c .before .before .before .before .before .before .before .before .before .before .before .before .before .before .before .args .h) (c .before .before .before .before .before .before .before .before .before .before .before .before .before .before .before .args .t) (c .before .before .before .before .before .before .before .before .before .before .before .before .before .before .before .pre .0) (c .before .before .before .before .before .before .before .before .before .before .before .before .before .before .before .pre .1) (c .before .before .before .before .before .before .before .before .before .before .before .before .upper .result) (c .before .before .before .before .before .before .before .before .before .before .next .result) (c .before .before .before .before .before .before .before .before .before .before .before .before .upper .ensures) (c .before .before .before .before .before .before .before .before .before .before .next .ensures .1) (c .before .before .before .before .before .before .before .before .before .before .next .ensures .2) _ (c .before .before .before .before .become-table .ensures),
+          k,
+          ((omega (arith, c .before .before .before .before .before .before .next .ensures .1), within (c .before .before .before .before .before .before .before .before .before .before .before .args .ram .now) (c .before .before .before .before .before .before .before .before .before .before .before .args .ledger .now) (c .before .before .before .before .before .before .before .before .before .before .before .pre .0 .sound) (c .before .before .before .before .before .before .next .result) (c .before .before .before .before .before .before .next .ensures .1)), make-room (c .before .before .before .before .before .before .before .before .before .before .before .args .ram .now) (c .before .before .before .before .before .before .before .before .before .before .before .args .ledger .now) (c .before .before .before .before .before .before .before .before .before .before .before .args .g) (c .before .before .before .before .before .before .before .before .before .before .before .args .v) (c .before .before .before .before .before .before .before .before .before .before .before .args .h) (c .before .before .before .before .before .before .before .before .before .before .before .args .t) (c .before .before .before .before .before .before .before .before .before .before .before .pre .0) (c .before .before .before .before .before .before .before .before .before .before .before .pre .1) (c .before .before .before .before .before .before .before .before .upper .result) (c .before .before .before .before .before .before .next .result) (c .before .before .before .before .before .before .before .before .upper .ensures) (c .before .before .before .before .before .before .next .ensures .1) (c .before .before .before .before .before .before .next .ensures .2) _ (c .before .before .before .before .become-table .ensures)),
         ),
       ),
     )
@@ -53,8 +49,7 @@ same-length-2 : tie.Need-same-length-2
 same-length-2 c = search needs
 
 returns : tie.Need-returns
-returns c = make-end (c .before .before .before .before .before .before .before .before .before .before .before .before .before .before .before .before .before .before .args .ram .now) (c .before .before .before .before .before .before .before .before .before .before .before .before .before .before .before .before .before .before .args .ledger .now) (c .before .before .before .before .before .before .before .before .before .before .before .before .before .before .before .before .before .before .args .g) (c .before .before .before .before .before .before .before .before .before .before .before .before .before .before .before .before .before .before .args .v) (c .before .before .before .before .before .before .before .before .before .before .before .before .before .before .before .before .before .before .args .h) (c .before .before .before .before .before .before .before .before .before .before .before .before .before .before .before .before .before .before .args .t) (c .before .before .before .before .before .before .before .before .before .before .before .before .before .before .before .before .before .before .pre .0) (c .before .before .before .before .before .before .before .before .before .before .before .before .before .before .before .before .before .before .pre .1) (c .before .before .before .before .before .before .before .before .before .before .before .before .before .before .before .upper .result) (c .before .before .before .before .before .before .before .before .before .before .before .before .before .next .result) (c .before .before .before .before .before .before .before .before .before .before .before .before .before .before .before .upper .ensures) (c .before .before .before .before .before .before .before .before .before .before .before .before .before .next .ensures .1) (c .before .before .before .before .before .before .before .before .before .before .before .before .before .next .ensures .2) _ (c .before .before .before .before .before .before .before .become-table .ensures) (c .before .before .before .before .before .before .before .before .before .before .before .before .before .next .ensures .0) _ _
-    (c .before .before .before .before .before .before .before .before .before .before .before .clear-frame .ensures) (c .before .before .link .ensures) (omega (arith, c .before .before .before .before .before .before .before .before .before .before .before .clear-frame .kept, c .before .before .link .kept))
+returns c = make-end (c .before .before .before .before .before .before .before .before .before .before .before .before .before .before .args .ram .now) (c .before .before .before .before .before .before .before .before .before .before .before .before .before .before .args .ledger .now) (c .before .before .before .before .before .before .before .before .before .before .before .before .before .before .args .g) (c .before .before .before .before .before .before .before .before .before .before .before .before .before .before .args .v) (c .before .before .before .before .before .before .before .before .before .before .before .before .before .before .args .h) (c .before .before .before .before .before .before .before .before .before .before .before .before .before .before .args .t) (c .before .before .before .before .before .before .before .before .before .before .before .before .before .before .pre .0) (c .before .before .before .before .before .before .before .before .before .before .before .before .before .before .pre .1) (c .before .before .before .before .before .before .before .before .before .before .before .upper .result) (c .before .before .before .before .before .before .before .before .before .next .result) (c .before .before .before .before .before .before .before .before .before .before .before .upper .ensures) (c .before .before .before .before .before .before .before .before .before .next .ensures .1) (c .before .before .before .before .before .before .before .before .before .next .ensures .2) _ (c .before .before .before .before .before .before .before .become-table .ensures) (c .before .before .before .before .before .before .before .before .before .next .ensures .0) _ (c .before .before .clear-and-link .ensures) (omega (arith, c .before .before .clear-and-link .kept))
 
 pub make-table-spec : {M : Type 1} → statement M
 make-table-spec =
@@ -62,10 +57,9 @@ make-table-spec =
     (tie.spec
     upper-requires
     next-requires
-    clear-frame-requires
     sub-become-table
     become-table-requires
-    link-requires
+    clear-and-link-requires
     same-length
     same-length-2
     returns)
