@@ -1,15 +1,15 @@
 -- RAM that changed beside the tables: the operations can still count on the two slices.
 use mathlib.Core.Path.{_≡_, refl, sym, ap, _∙_}
-use mathlib.Core.Bool.{Bool, true, false}
-use mathlib.Core.Logic.{_⊎_, inl, inr}
+use mathlib.Core.Bool.{true, false}
+use mathlib.Core.Logic.{inl, inr}
 use mathlib.Core.List.{List}
-use Prim.Native.Nat.{ℕ, _+_, _*_, _≤_, _<_, _/_}
+use Prim.Native.Nat.{ℕ, _+_, _*_, _<_, _/_}
 use native.Mathlib.Omega.{arith}
 use lib.ListN.{length}
 use borrow.Author.Tests.{lt-ltb, le-ltb}
-use Rattle.memory.specs.Word.{wordAt, storedAt}
+use Rattle.memory.specs.Word.{storedAt}
 use Rattle.memory.specs.Laws.{word-other, length-kept}
-use Rattle.model.specs.Base.{eq?, lt?}
+use Rattle.model.specs.Base.{lt?}
 use Rattle.model.specs.State.{State, Kind, monitor, free, table, draining-table, page, draining-page}
 use Rattle.model.specs.Entry.{entry}
 use Rattle.model.specs.Translate.{entry-at}
