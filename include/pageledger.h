@@ -107,8 +107,8 @@ uint64_t pageledger_both_stages(const uint8_t *ram, size_t ram_length, uint64_t 
  * What the operations and questions count on, and a caller sees to:
  *   - the two arrays are those for which pageledger_set_up answered 0, and since then nobody but these functions has written the
  *     ledger, or a frame that is a table or was one and drains. A guest may write what it reaches, and the host the guests' pages;
- *     frames of the monitor and free ones may hold anything. The ledger lies outside RAM, and so does whatever else is the host's alone
- *     and does not stand in the monitor's frames;
+ *     frames of the monitor and free ones may hold anything. The ledger lies outside RAM, and so does whatever else is the host's
+ *     alone and does not stand in the monitor's frames;
  *   - one call at a time, whichever core makes it. (Guests that run meanwhile are not in the way: no operation reads a page, and
  *     one is written only to clear it before it is anybody's. The proof takes a guest's store as made before or after a call.)
  *
