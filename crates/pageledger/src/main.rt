@@ -76,7 +76,14 @@ fn gather(s: State, line: &mut [u8], b: u8) -> State
     s
 }
 
-fn take(s: State, b: u8, line: &mut [u8], ram: &mut [u8], ledger: &mut [u32], out: &mut [u8]) -> State
+fn take(
+    s: State,
+    b: u8,
+    line: &mut [u8],
+    ram: &mut [u8],
+    ledger: &mut [u32],
+    out: &mut [u8],
+) -> State
     requires { ⌜ Ready s (length (now line)) (now ram) (now ledger) (length (now out)) ⌝ }
     ensures { λ r. ⌜ Ready r (length (now (line .entry))) (now (ram .exit)) (now (ledger .exit)) (length (now (out .entry))) ⌝ }
 {
@@ -86,7 +93,14 @@ fn take(s: State, b: u8, line: &mut [u8], ram: &mut [u8], ledger: &mut [u32], ou
     gather(s, line, b)
 }
 
-fn take_all(s: State, chunk: &[u8], line: &mut [u8], ram: &mut [u8], ledger: &mut [u32], out: &mut [u8]) -> State
+fn take_all(
+    s: State,
+    chunk: &[u8],
+    line: &mut [u8],
+    ram: &mut [u8],
+    ledger: &mut [u32],
+    out: &mut [u8],
+) -> State
     requires { ⌜ Ready s (length (now line)) (now ram) (now ledger) (length (now out)) ⌝ }
     ensures { λ r. ⌜ Ready r (length (now (line .entry))) (now (ram .exit)) (now (ledger .exit)) (length (now (out .entry))) ⌝ }
 {

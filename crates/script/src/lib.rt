@@ -22,7 +22,13 @@ pub struct Answered {
     pub printed: usize,
 }
 
-fn answer_command(c: Command, m: Machine, ram: &mut [u8], ledger: &mut [u32], out: &mut [u8]) -> Answered
+fn answer_command(
+    c: Command,
+    m: Machine,
+    ram: &mut [u8],
+    ledger: &mut [u32],
+    out: &mut [u8],
+) -> Answered
     requires { ⌜ (Kept m (now ram) (now ledger)) × (Room (length (now ram)) (length (now out))) ⌝ }
     ensures { λ r. ⌜ Answers (Read.Asked c) m (now (ram .entry)) (now (ledger .entry)) (now (ram .exit)) (now (ledger .exit)) (now (out .exit)) r ⌝ }
 {
@@ -34,7 +40,13 @@ fn answer_command(c: Command, m: Machine, ram: &mut [u8], ledger: &mut [u32], ou
 }
 
 // Answers one line, given without its line end.
-pub fn answer_line(line: &[u8], m: Machine, ram: &mut [u8], ledger: &mut [u32], out: &mut [u8]) -> Answered
+pub fn answer_line(
+    line: &[u8],
+    m: Machine,
+    ram: &mut [u8],
+    ledger: &mut [u32],
+    out: &mut [u8],
+) -> Answered
     requires { ⌜ (Kept m (now ram) (now ledger)) × (Room (length (now ram)) (length (now out))) ⌝ }
     ensures { λ r. ⌜ Answers (readOf (now (line .entry))) m (now (ram .entry)) (now (ledger .entry)) (now (ram .exit)) (now (ledger .exit)) (now (out .exit)) r ⌝ }
 {
