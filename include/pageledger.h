@@ -126,6 +126,8 @@ uint64_t pageledger_both_stages(const uint8_t *ram, size_t ram_length, uint64_t 
  *     pageledger_map works on it, and a barrier (DSB ISH, then ISB) follows an operation before the guest runs on;
  *   - pageledger_invalidated is called only after the invalidation of all of the guest's translations has completed on every
  *     core: DSB ISHST, TLBI VMALLS12E1IS under its VMID, DSB ISH, ISB. It is a report, and does none of this itself;
+ *   - where a guest can map its memory as not cacheable, a frame that pageledger_give cleared is cleaned to the point of coherency
+ *     (DC CIVAC, DSB) before the guest runs on; else it may read what the memory held below the caches;
  *   - devices reach none of the RAM that is lent: these tables are not theirs. */
 
 /* The lengths that set-up wants for n frames: RAM in bytes, the ledger in elements of 32 bits (64 bytes a frame, and 576). */
