@@ -11,25 +11,29 @@ use Rattle.walk.specs.declared.Ended.the-variants.{Reached, Failed}
 use Rattle.walk.specs.Both.{Walked, ends, having-fetched, One, reached, failed, Both, by-result, through, tell}
 use Rattle.walk.specs.Steps.{end-by, ended, told}
 
+-- whatever is told of a result and of how many were fetched, in one stage or in both
+module _ {R A : Type 0} (tells : R → ℕ → A) where
+  more : (n : ℕ) (places : List ℕ) (w : Walked R) → tells (w .result) (n + length (places ++ w .fetched)) ≡ tells (w .result) (n + length places + length (w .fetched))
+  more n places w = ap (tells (w .result)) (omega (arith, length-append places (w .fetched)))
+
+  now : (n : ℕ) (r : R) → tells r (n + 0) ≡ tells r n
+  now n r = ap (tells r) (omega arith)
+
 pub ended-more : (n : ℕ) (places : List ℕ) (w : Walked One) → ended n (having-fetched places w) ≡ ended (n + length places) w
 unfolding ended
-ended-more n places w =
-    let same : n + length (places ++ w .fetched) ≡ n + length places + length (w .fetched) = omega (arith, length-append places (w .fetched)) in
-    ap (end-by (w .result)) same
+ended-more = more end-by
 
 pub told-more : (n : ℕ) (places : List ℕ) (w : Walked Both) → told n (having-fetched places w) ≡ told (n + length places) w
 unfolding told
-told-more n places w =
-    let same : n + length (places ++ w .fetched) ≡ n + length places + length (w .fetched) = omega (arith, length-append places (w .fetched)) in
-    ap (tell (w .result)) same
+told-more = more tell
 
 pub ended-now : (n : ℕ) (r : One) → ended n (ends r) ≡ end-by r n
 unfolding ended
-ended-now n r = ap (end-by r) (omega arith)
+ended-now = now end-by
 
 pub told-now : (n : ℕ) (r : Both) → told n (ends r) ≡ tell r n
 unfolding told
-told-now n r = ap (tell r) (omega arith)
+told-now = now tell
 
 -- What the end of stage 2 says of the whole walk that went through it.
 module _ (n : ℕ) (fails : Kind → ℕ → Both) (next : ℕ → Walked Both) where
