@@ -1,7 +1,7 @@
 -- What every operation of the monitor promises: the answer is the definition's, and so is the state of the two slices after it.
 -- On a refusal both slices are, as lists, what they were. What the operations count on, Sound, holds again.
 use mathlib.Core.Path.{_≡_, refl, sym, ap, _∙_}
-use mathlib.Core.Bool.{Bool, true, false, not, _&&_}
+use mathlib.Core.Bool.{Bool, true, false, _&&_}
 use mathlib.Core.Logic.{_⊎_, inl, inr}
 use mathlib.Core.List.{List}
 use Prim.Native.Nat.{ℕ, _+_, _*_, _<_, _≤_}
@@ -95,10 +95,6 @@ pub taken-low : {t : ℕ} {k : Kind} {l l′ : List ℕ} → Taken t k l l′ �
 taken-low {t} {k} x f h = still-low (x .changes) (λ s. unfold with-kind remade in refl) f h
 
 -- tests, as the code makes them
-pub not-false : (a : Bool) → not a ≡ false → a ≡ true
-not-false true e = refl
-not-false false e = cc
-
 pub and-left : (a b : Bool) → a ≡ false → (a && b) ≡ false
 and-left a b e = rw e
 

@@ -6,7 +6,7 @@ use Prim.Native.Nat.{ℕ, _-_, _≤_}
 use Rattle.model.specs.Base.{all, not-true}
 use Rattle.model.specs.Operations.{unshared}
 use Rattle.ledger.specs.Layout.{size-of, state-of}
-use Rattle.operation.specs.Answers.{not-false}
+use borrow.Author.Tests.{not-false}
 use Rattle.guests.specs.Destroy.{all-none, all-more, all-false}
 use native.Mathlib.Omega.{arith}
 use Rattle.guests.proofs.all_unshared.Statement.{statement}

@@ -5,7 +5,8 @@ use Rattle.model.specs.Base.{not-true}
 use Rattle.model.specs.Operations.{destroy}
 use Rattle.ledger.specs.Layout.{state-in}
 use Rattle.ledger.specs.Sound.{guest-there}
-use Rattle.operation.specs.Answers.{stops, goes-on, not-false}
+use borrow.Author.Tests.{not-false}
+use Rattle.operation.specs.Answers.{stops, goes-on}
 use Rattle.guests.proofs.check_destroy.Statement.{statement}
 use Rattle.guests.proofs.check_destroy.Tie as tie
 

@@ -3,10 +3,9 @@
 use mathlib.Core.Path.{_∙_, ap, sym}
 use lib.Dec.{eqb}
 use Rattle.model.specs.Base.{not-true}
-use Rattle.operation.specs.Answers.{not-false}
+use borrow.Author.Tests.{not-false, eq-eqb, ne-eqb}
 use Rattle.ledger.specs.Layout.{shared-of}
 use Rattle.guests.specs.Destroy.{no-page, with-it, of-another, of-it}
-use borrow.Author.Tests.{eq-eqb, ne-eqb}
 use Rattle.guests.proofs.unshared.Statement.{statement}
 use Rattle.guests.proofs.unshared.Tie as tie
 

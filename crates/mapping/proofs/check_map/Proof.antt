@@ -7,10 +7,10 @@ use Rattle.model.specs.Operations.{may-map}
 use Rattle.ledger.specs.Layout.{size-of, state-in}
 use Rattle.ledger.specs.Laws.{guest-low}
 use Rattle.ledger.specs.Sound.{guest-there}
-use Rattle.operation.specs.Answers.{stops, goes-on, not-false}
+use borrow.Author.Tests.{not-false, lt-ltb, le-ltb}
+use Rattle.operation.specs.Answers.{stops, goes-on}
 use borrow.Author.Needs.{needs}
 use native.Mathlib.Omega.{arith}
-use borrow.Author.Tests.{lt-ltb, le-ltb}
 use Rattle.mapping.proofs.check_map.Statement.{statement}
 use Rattle.mapping.proofs.check_map.Tie as tie
 

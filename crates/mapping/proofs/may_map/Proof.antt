@@ -2,7 +2,7 @@
 -- A page of its own, or a page that is shared so.
 use mathlib.Core.Path.{_∙_, sym}
 use Rattle.model.specs.Base.{not-true}
-use Rattle.operation.specs.Answers.{not-false}
+use borrow.Author.Tests.{not-false}
 use Rattle.mapping.specs.Map.{allows-own, allows-none, allows-shared}
 use borrow.Author.Needs.{needs}
 use Rattle.mapping.proofs.may_map.Statement.{statement}

@@ -4,9 +4,9 @@ use mathlib.Core.Path.{_∙_, refl, sym}
 use Rattle.model.specs.Base.{not-true}
 use Rattle.model.specs.Operations.{give}
 use Rattle.ledger.specs.Layout.{size-of, state-in}
-use Rattle.operation.specs.Answers.{stops, goes-on, not-false}
+use borrow.Author.Tests.{not-false, lt-ltb, le-ltb}
+use Rattle.operation.specs.Answers.{stops, goes-on}
 use native.Mathlib.Omega.{arith}
-use borrow.Author.Tests.{lt-ltb, le-ltb}
 use Rattle.pages.proofs.check_give.Statement.{statement}
 use Rattle.pages.proofs.check_give.Tie as tie
 

@@ -6,9 +6,9 @@ use Rattle.model.specs.Base.{not-true}
 use Rattle.model.specs.State.{total}
 use Rattle.model.specs.Operations.{take}
 use Rattle.ledger.specs.Layout.{size-of, count-of, shared-of, state-in}
-use Rattle.operation.specs.Answers.{stops, goes-on, not-false, and-left, and-right, and-both}
+use borrow.Author.Tests.{not-false, lt-ltb, le-ltb}
+use Rattle.operation.specs.Answers.{stops, goes-on, and-left, and-right, and-both}
 use native.Mathlib.Omega.{arith}
-use borrow.Author.Tests.{lt-ltb, le-ltb}
 use Rattle.pages.proofs.check_take.Statement.{statement}
 use Rattle.pages.proofs.check_take.Tie as tie
 

@@ -7,10 +7,10 @@ use Rattle.model.specs.Base.{not-true}
 use Rattle.model.specs.Operations.{share}
 use Rattle.ledger.specs.Layout.{size-of, exists-of, shared-of, count-of, dirty-of, state-in, state-of}
 use Rattle.ledger.specs.Sound.{guest-there}
-use Rattle.operation.specs.Answers.{stops, goes-on, not-false, and-left, and-right, and-both}
+use borrow.Author.Tests.{not-false, lt-ltb, lt-leb, le-leb, le-ltb, eq-eqb, ne-eqb}
+use Rattle.operation.specs.Answers.{stops, goes-on, and-left, and-right, and-both}
 use Rattle.sharing.specs.Share.{narrow-out, wide-out}
 use native.Mathlib.Omega.{arith}
-use borrow.Author.Tests.{lt-ltb, lt-leb, le-leb, le-ltb, eq-eqb, ne-eqb}
 use Rattle.sharing.proofs.check_share.Statement.{statement}
 use Rattle.sharing.proofs.check_share.Tie as tie
 

@@ -8,10 +8,10 @@ use Rattle.model.specs.State.{is-page-of}
 use Rattle.model.specs.Operations.{unshare}
 use Rattle.ledger.specs.Layout.{size-of, exists-of, kind-of, shared-of, count-of, dirty-of, state-in}
 use Rattle.ledger.specs.Sound.{guest-there}
-use Rattle.operation.specs.Answers.{stops, goes-on, not-false, and-left, and-right, and-both}
+use borrow.Author.Tests.{not-false, lt-ltb, le-ltb}
+use Rattle.operation.specs.Answers.{stops, goes-on, and-left, and-right, and-both}
 use Rattle.sharing.specs.Share.{held-out}
 use native.Mathlib.Omega.{arith}
-use borrow.Author.Tests.{lt-ltb, le-ltb}
 use Rattle.sharing.proofs.check_unshare.Statement.{statement}
 use Rattle.sharing.proofs.check_unshare.Tie as tie
 

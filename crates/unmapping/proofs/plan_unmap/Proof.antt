@@ -4,7 +4,7 @@ use mathlib.Core.Path.{_∙_, sym}
 use Rattle.model.specs.Base.{not-true}
 use Rattle.model.specs.Invariant.MapUnmap.{address-low}
 use Rattle.ledger.specs.Layout.{state-in, state-of}
-use Rattle.operation.specs.Answers.{not-false}
+use borrow.Author.Tests.{not-false}
 use Rattle.descent.specs.Way.{way-words}
 use Rattle.unmapping.specs.Unmap.{unmap-5, unmap-7, plan-above, plan-empty, plan-slot}
 use borrow.Author.Needs.{needs}
