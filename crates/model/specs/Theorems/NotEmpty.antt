@@ -8,7 +8,7 @@ use Rattle.model.specs.Translate.{translate}
 use Rattle.model.specs.Cache.{reading, writing}
 use Rattle.model.specs.Machine.{SetUp, Run, Reaches}
 use Rattle.model.specs.Worked.Machine.{machine-0, machine-11, machine-19, machine-32, set-up-0, run-11, run-19, run-32, owner-writes, other-reads, drains, stale, ends}
-use Rattle.model.specs.Worked.Writing.{machine-writes, machine-destroyed, machine-again, run-writes, run-destroyed, run-again, shared-to-write, two-write, tables-drain, tables-used-again}
+use Rattle.model.specs.Worked.Writing.{machine-writes, machine-destroyed, machine-again, run-writes, run-destroyed, run-again, shared-to-write, two-write, tables-drain, root-still-kept, tables-used-again}
 
 -- after 11 steps guest 1 writes and guest 2 reads the first byte of frame 8
 pub two-reach-it : SetUp machine-0 × Run machine-0 machine-11 × (machine-11 .state .kind 8 ≡ page 1) × Reaches machine-11 1 writing 0x40008000 × Reaches machine-11 2 reading 0x40008000
@@ -26,9 +26,9 @@ it-is-handed-on = (run-32, ends)
 pub two-write-it : SetUp machine-0 × Run machine-0 machine-writes × (machine-writes .state .kind 8 ≡ page 1) × (machine-writes .state .shared 8 2 ≡ 2) × Reaches machine-writes 1 writing 0x40008000 × Reaches machine-writes 2 writing 0x40008000
 two-write-it = (set-up-0, run-writes, shared-to-write .0, shared-to-write .1, two-write .0, two-write .1)
 
--- guest 2 is destroyed: its root table, frame 3, and its table of height 0, frame 10, drain for it
-pub its-tables-drain : Run machine-0 machine-destroyed × (machine-destroyed .state .kind 3 ≡ draining-table 2 3 0) × (machine-destroyed .state .kind 10 ≡ draining-table 2 0 0)
-its-tables-drain = (run-destroyed, tables-drain .0, tables-drain .1)
+-- guest 2 is destroyed: its root table, frame 3, and its table of height 0, frame 10, drain for it, and the processor still keeps where the root was
+pub its-tables-drain : Run machine-0 machine-destroyed × (machine-destroyed .state .kind 3 ≡ draining-table 2 3 0) × (machine-destroyed .state .kind 10 ≡ draining-table 2 0 0) × machine-destroyed .caches .table-kept 2 3 0 0x40003
+its-tables-drain = (run-destroyed, tables-drain .0, tables-drain .1, root-still-kept)
 
 -- after its invalidation the one is guest 3's root table, and the other guest 1's page
 pub its-tables-are-used-again : Run machine-0 machine-again × (machine-again .state .kind 3 ≡ table 3 3 0) × (machine-again .state .kind 10 ≡ page 1)

@@ -111,10 +111,10 @@ keeps-on m g [] q v x r a = a
 keeps-on m g (b ∷ rest) q v x r a = keeps-on (call m (operation (m .state) b)) g rest (q .1) v x r (call-keeps m (operation (m .state) b) g (silent (m .state) g b (q .0)) v x r a)
 
 -- after a call the processor has looked at the state that is there
-abbrev Looked : Machine → Type 1
+abbrev pub Looked : Machine → Type 1
 Looked m = (k : Caches) × (m .caches ≡ grown (m .state) k)
 
-looked : (m : Machine) (a : Ask) (l : List Ask) → Looked (machine-after m (a ∷ l))
+pub looked : (m : Machine) (a : Ask) (l : List Ask) → Looked (machine-after m (a ∷ l))
 unfolding machine-after
 looked m a [] = unfold call in go (answer (m .state) (operation (m .state) a))
   where
