@@ -32,6 +32,6 @@ pub mod Bridge
 pub mod RoundTrip
 pub mod WalkReaches
 pub mod Ram
--- Nothing is vacuous: what is mapped is reached; a run with sharing, a stale cache, draining and reuse.
+-- Nothing is vacuous: what is mapped is reached; a run with sharing, a stale cache, draining and reuse; one with sharing for writing and a destroyed guest.
 pub mod Mapped
 pub mod NotEmpty

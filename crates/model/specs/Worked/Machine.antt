@@ -3,7 +3,7 @@ use mathlib.Core.Path.{_≡_, refl, ap, subst, _∙_}
 use mathlib.Core.Bool.{true}
 use mathlib.Core.List.{List, [], _∷_}
 use mathlib.Core.Option.{none, some}
-use Prim.Native.Nat.{ℕ, _+_, _<_}
+use Prim.Native.Nat.{ℕ, _+_, _*_, _<_}
 use native.Mathlib.Omega.{arith}
 use Rattle.model.specs.State.{State, page, draining-page, pages}
 use Rattle.model.specs.Translate.{translate}
@@ -111,10 +111,10 @@ keeps-on m g [] q v x r a = a
 keeps-on m g (b ∷ rest) q v x r a = keeps-on (call m (operation (m .state) b)) g rest (q .1) v x r (call-keeps m (operation (m .state) b) g (silent (m .state) g b (q .0)) v x r a)
 
 -- after a call the processor has looked at the state that is there
-abbrev Looked : Machine → Type 1
+abbrev pub Looked : Machine → Type 1
 Looked m = (k : Caches) × (m .caches ≡ grown (m .state) k)
 
-looked : (m : Machine) (a : Ask) (l : List Ask) → Looked (machine-after m (a ∷ l))
+pub looked : (m : Machine) (a : Ask) (l : List Ask) → Looked (machine-after m (a ∷ l))
 unfolding machine-after
 looked m a [] = unfold call in go (answer (m .state) (operation (m .state) a))
   where
@@ -123,12 +123,16 @@ looked m a [] = unfold call in go (answer (m .state) (operation (m .state) a))
     go (done s) = unfold settle in (keeps (m .caches) (operation (m .state) a), refl)
 looked m a (b ∷ rest) = looked (call m (operation (m .state) a)) b rest
 
+-- a guest whose tables lead to frame 8 reaches its first byte
+pub reaches-8 : {m : Machine} → Run machine-0 m → (s : State) → m .state ≡ s → s .first ≡ 0x40000 → (g v r : ℕ) (w : Access) → v < pages → translate s g v ≡ some (8, r) → grants r w ≡ true → Reaches m g w 0x40008000
+reaches-8 {m} run s is first g v r w l e a = subst (λ (x : ℕ). Reaches m g w ((x + 8) * 4096 + 0)) (ap (λ (s : State). s .first) is ∙ first) (reaches-mapped m (holds set-up-0 run .core) g v 8 r w 0 l (rw is e) a (omega arith))
+
 -- guest 1 writes and guest 2 reads frame 8
 first-11 : machine-11 .state .first ≡ 0x40000
 first-11 = ap (λ (s : State). s .first) state-11 ∙ first-page
 
 at-11 : (g v r : ℕ) (w : Access) → v < pages → translate after-11 g v ≡ some (8, r) → grants r w ≡ true → Reaches machine-11 g w 0x40008000
-at-11 g v r w l e a = rw first-11 at (reaches-mapped machine-11 (holds set-up-0 run-11 .core) g v 8 r w 0 l (rw state-11 e) a (omega arith))
+at-11 = reaches-8 run-11 after-11 state-11 first-page
 
 pub owner-writes : (machine-11 .state .kind 8 ≡ page 1) × Reaches machine-11 1 writing 0x40008000
 owner-writes = (ap (λ (s : State). s .kind 8) state-11 ∙ shared-then .0, at-11 1 0x80000 3 writing (omega arith) (shared-then .2) refl)
