@@ -1,0 +1,6 @@
+pub mod Calls
+pub mod Slices
+pub mod StoredByte
+pub mod Steps
+pub mod Runs
+pub mod OnSlices
