@@ -4,3 +4,4 @@ pub mod StoredByte
 pub mod Steps
 pub mod Runs
 pub mod OnSlices
+pub mod Contents
