@@ -5,3 +5,4 @@ pub mod Steps
 pub mod Runs
 pub mod OnSlices
 pub mod Contents
+pub mod Possible
