@@ -4,3 +4,5 @@ pub mod StoredByte
 pub mod Steps
 pub mod Runs
 pub mod OnSlices
+pub mod Contents
+pub mod Possible
