@@ -16,9 +16,9 @@ SCRIPT = HERE / "worked-image.script"
 ANSWERS = SCRIPT.with_suffix(".expected").read_bytes()
 
 
-def refused(*words, **how):
+def refused(*words, command=COMMAND, **how):
     """A problem unless the command ends with status 2, a message, and nothing on standard output."""
-    ran = subprocess.run([COMMAND, *words], stdin=subprocess.DEVNULL, capture_output=True, **how)
+    ran = subprocess.run([command, *words], stdin=subprocess.DEVNULL, capture_output=True, **how)
     if (ran.returncode, ran.stdout) != (2, b"") or not ran.stderr.startswith(b"pageledger: "):
         return f"status {ran.returncode}, printed {ran.stdout[:80]!r}, said {ran.stderr[:80]!r}"
     return None
@@ -72,6 +72,9 @@ def main():
         count.check("another folder", tally.problem([COMMAND, "a script"], ANSWERS, stdin=nothing, cwd=place))
         count.check("a link to it", tally.problem([place / "link", SCRIPT], ANSWERS, stdin=nothing))
         count.check("a file that is not there", refused(place / "none"))
+        count.check("what was built", tally.problem([COMMAND, "--built", SCRIPT], ANSWERS, stdin=nothing))
+        shutil.copy(COMMAND, place / "pageledger")
+        count.check("nothing was built", refused("--built", SCRIPT, command=place / "pageledger"))
         count.check("a folder", refused(place))
         count.check("no rt", without_rt(place))
     count.check("an empty name", refused(""))

@@ -1,7 +1,7 @@
 #!/usr/bin/env python3
 """Holds the program to the reference on random lines over hostile images, and prints what was seen.
 
-random_lines.py [--scripts N] [--seed S] [PROGRAM WORD...]; the program is ./pageledger unless one is named.
+random_lines.py [--scripts N] [--seed S] [-- PROGRAM WORD...]; the program is ./pageledger unless one is named.
 Each script counts as one check, and so does that every kind of answer was seen.
 """
 

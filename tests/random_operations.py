@@ -1,7 +1,7 @@
 #!/usr/bin/env python3
 """Holds the program to the reference on random operations of document 03, and prints which answers were seen.
 
-random_operations.py [--long] [--seed S] [PROGRAM WORD...]; the program is ./pageledger unless one is named.
+random_operations.py [--long] [--seed S] [-- PROGRAM WORD...]; the program is ./pageledger unless one is named.
 The whole ledger, the guests and some translations are compared after each operation. Which free frame becomes a
 table is the program's choice, and the reference follows it: its ledger says which frames were taken, which must
 have been free and as many as document 03 says. Each script counts as one check, and so does that each refusal
