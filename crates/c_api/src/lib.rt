@@ -1,7 +1,6 @@
 // What C and Rust programs link: include/pageledger.h tells a caller what each function does. Numbers and slices only.
 // Nothing is asked of the caller's numbers, and an array that has too little room is refused. Operations and questions count on two slices
 // that set-up and operations have made; set-up and the walks count on nothing.
-mod answer;
 pub mod operations;
 pub mod questions;
 pub mod walks;

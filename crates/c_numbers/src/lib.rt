@@ -4,7 +4,7 @@ ghost use mathlib.Core.Bool.{cond};
 ghost use mathlib.Core.List.{_++_};
 ghost use Prim.Native.Nat.{_≤_};
 ghost use lib.ListN.{length, drop};
-ghost use Rattle.c_api.specs.Answer.{number, numbers, frame-numbers, guest-numbers, seven, three, status, told};
+ghost use Rattle.c_numbers.specs.Answer.{number, numbers, frame-numbers, guest-numbers, seven, three, status, told};
 use monitor::FrameKind;
 use monitor::GuestKind;
 use walk::Answer;
@@ -67,7 +67,7 @@ fn put(out: &mut [u64], answer: Answer)
 }
 
 // Answers 15 where the array has no room for seven numbers, and 0 otherwise.
-pub(crate) fn tell(out: &mut [u64], answer: Answer) -> u64
+pub fn tell(out: &mut [u64], answer: Answer) -> u64
     ensures { λ r. ⌜ (r ≡ status 7 (length (now (out .entry)))) × (now (out .exit) ≡ told 7 (numbers answer) (now (out .entry))) ⌝ }
 {
     if out.len() < 7 {
@@ -90,7 +90,7 @@ fn tell_three(out: &mut [u64], what: u64, second: u64, third: u64) -> u64
     0
 }
 
-pub(crate) fn tell_frame(out: &mut [u64], frame: FrameKind) -> u64
+pub fn tell_frame(out: &mut [u64], frame: FrameKind) -> u64
     ensures { λ r. ⌜ (r ≡ status 3 (length (now (out .entry)))) × (now (out .exit) ≡ told 3 (frame-numbers frame) (now (out .entry))) ⌝ }
 {
     match frame {
@@ -112,7 +112,7 @@ fn bit(b: bool) -> u64
     0
 }
 
-pub(crate) fn tell_guest(out: &mut [u64], guest: GuestKind) -> u64
+pub fn tell_guest(out: &mut [u64], guest: GuestKind) -> u64
     ensures { λ r. ⌜ (r ≡ status 3 (length (now (out .entry)))) × (now (out .exit) ≡ told 3 (guest-numbers guest) (now (out .entry))) ⌝ }
 {
     match guest {
