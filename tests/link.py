@@ -1,12 +1,14 @@
 #!/usr/bin/env python3
 """link.py: the header is clean C and C++, the examples link the library and print what they should, programs for Arm link it with
-nothing beside it, and the Rust crate agrees with a second implementation of documents 01 and 03. Wants the kit, cc, c++ and cargo,
-and out/ as ./build writes it."""
+nothing beside it, the same walks and operations come out alike on x86-64 and on Arm, and the Rust crate agrees with a second
+implementation of documents 01 and 03. Wants the kit, cc, c++ and cargo, and out/ as ./build writes it; and for Arm on another
+machine, where they are there, Debian's gcc-aarch64-linux-gnu and qemu-user."""
 
 import os
 import pathlib
 import platform
 import re
+import shutil
 import subprocess
 import tempfile
 
@@ -53,6 +55,19 @@ def linked_alone(folder, triple, helpers, work):
             or run([tools / "ld.lld", f"{program}.o", library, "-o", program]))
 
 
+def digests(work):
+    """Yields each library that can be run here, with what is wrong with what tests/digest.c prints over it, or None."""
+    here, expected = f"{platform.machine()}-linux", (HERE / "tests/digest.expected").read_text()
+    builds = {here: (["cc"], [])}
+    if shutil.which("aarch64-linux-gnu-gcc") and shutil.which("qemu-aarch64"):
+        builds |= {folder: (["aarch64-linux-gnu-gcc", "-static"], ["qemu-aarch64"]) for folder in ("aarch64-linux", "aarch64-none-elf")}
+    else:
+        print("no aarch64-linux-gnu-gcc and qemu-aarch64 here: of the libraries only that of this machine was run")
+    for folder, (compiler, runner) in builds.items():
+        command = [*compiler, "-std=c99", "-O2", *STRICT, "-Iout/include", "tests/digest.c", f"out/{folder}/libpageledger.a", "-o", f"{work}/digest"]
+        yield folder, run(command) or run([*runner, f"{work}/digest"], expected)
+
+
 def main():
     count = tally.Tally()
     library = HERE / "out" / f"{platform.machine()}-linux" / "libpageledger.a"
@@ -68,6 +83,8 @@ def main():
                 count.check(f"examples/{name}.c as {standard}", run(command) or run([program], expected))
         for folder, triple, helpers in (("aarch64-linux", "aarch64-unknown-linux-gnu", ["memset"]), ("aarch64-none-elf", "aarch64-none-elf", [])):
             count.check(f"a program for {folder}", linked_alone(folder, triple, helpers, work))
+        for folder, problem in digests(work):
+            count.check(f"the same answers from out/{folder}", problem)
         command = ["cc", "-std=c11", "-O2", "-fno-builtin", *STRICT, "tests/memory.c", "-o", f"{work}/memory"]
         count.check("support/memory.c beside the C library's", run(command) or run([f"{work}/memory"], "23960 of 23960 agree\n"))
     cargo = {"CARGO_TARGET_DIR": str(HERE / "target/host"), "CARGO_NET_OFFLINE": "true"}

@@ -1,0 +1,122 @@
+/* The same walks and operations on every processor: prints how often each answer was given, and a digest of every answer and of both
+ * slices on the way. tests/digest.expected is what a build must print, wherever it runs: the x86-64 library printed it, which
+ * host/ holds to a second implementation of documents 01 and 03. */
+#include <inttypes.h>
+#include <stdio.h>
+#include "pageledger.h"
+
+enum { FRAMES = 64, WALKS = 100000, ROUNDS = 4, OPERATIONS = 10000, PLACES = 12 };
+static const uint64_t base = 0x40000000;
+static uint64_t words[PAGELEDGER_RAM_BYTES(FRAMES) / 8];
+static uint32_t ledger[PAGELEDGER_LEDGER_WORDS(FRAMES)];
+#define RAM (uint8_t *)words, sizeof words
+#define BOTH RAM, ledger, PAGELEDGER_LEDGER_WORDS(FRAMES)
+
+static uint64_t state = 88172645463325252u, digest = 14695981039346656037u, seen[16];
+
+static uint64_t random_below(uint64_t n)
+{
+    state ^= state << 13;
+    state ^= state >> 7;
+    state ^= state << 17;
+    return (state >> 16) % n;
+}
+
+static void take_in(uint64_t x)
+{
+    digest = (digest ^ x) * 1099511628211u;
+    digest ^= digest >> 29;
+}
+
+static void take_in_both(void)
+{
+    for (size_t i = 0; i < sizeof ledger / sizeof *ledger; i++)
+        take_in(ledger[i]);
+    for (size_t i = 0; i < sizeof words / sizeof *words; i++)
+        take_in(words[i]);
+}
+
+static void show(const char *what, uint64_t n)
+{
+    printf("%s %" PRIu64 ":", what, n);
+    for (int i = 0; i < 16; seen[i++] = 0)
+        printf(" %" PRIu64, seen[i]);
+    printf(", digest %016" PRIx64 "\n", digest);
+}
+
+/* Mostly sane, and now and then any number at all. */
+static uint64_t number(uint64_t below)
+{
+    return random_below(50) ? random_below(below) : random_below(UINT64_MAX);
+}
+
+/* Tables that lead into RAM, with the bits of a descriptor right more often than not, and with others now and then. */
+static uint64_t descriptor(void)
+{
+    uint64_t d = (base + 4096 * random_below(FRAMES + 1)) | 0x4c0 | (random_below(6) ? 3 : random_below(4));
+    return random_below(8) ? d : d ^ (uint64_t)1 << random_below(60);
+}
+
+static void walk_at_random(void)
+{
+    uint64_t answer[PAGELEDGER_ANSWER_NUMBERS], root1 = 4096 * random_below(FRAMES), root2 = base + 4096 * random_below(FRAMES);
+    uint64_t va = number((uint64_t)1 << 48), access = number(3), el = number(2);
+    words[random_below(sizeof words / sizeof *words)] = descriptor();
+    take_in(random_below(2) ? pageledger_stage2(RAM, base, FRAMES, root2, va, access, answer, PAGELEDGER_ANSWER_NUMBERS)
+                            : pageledger_both_stages(RAM, base, FRAMES, root1 + base, root2, va, access, el, answer, PAGELEDGER_ANSWER_NUMBERS));
+    for (int i = 0; i < PAGELEDGER_ANSWER_NUMBERS; i++)
+        take_in(answer[i]);
+    seen[4 * (answer[PAGELEDGER_ANSWER_WHAT] & 3) + (answer[PAGELEDGER_ANSWER_LEVEL] & 3)]++;
+}
+
+static uint64_t operate_at_random(void)
+{
+    uint64_t f = number(FRAMES + 1), g = number(5), h = number(5), a = number(PLACES) * 0x40201000;
+    switch (random_below(32)) {
+    case 0: return pageledger_destroy(BOTH, g);
+    case 1: case 2: case 3: return pageledger_create(BOTH, g);
+    case 4: case 5: case 6: return pageledger_invalidated(BOTH, g);
+    case 7: case 8: case 9: case 10: return pageledger_give(BOTH, f, g);
+    case 11: case 12: case 13: case 14: case 15: case 16: case 17: case 18: return pageledger_map(BOTH, f, g, a, number(8));
+    case 19: case 20: case 21: return pageledger_unmap(BOTH, a, g);
+    case 22: case 23: case 24: case 25: return pageledger_share(BOTH, g, f, h, number(2));
+    case 26: case 27: return pageledger_unshare(BOTH, g, f, h);
+    default: return pageledger_take(BOTH, f, g);
+    }
+}
+
+static void ask_at_random(void)
+{
+    uint64_t answer[PAGELEDGER_ANSWER_NUMBERS] = {0}, f = number(FRAMES + 1), g = number(5), a = number(PLACES) * 0x40201000, access = number(3);
+    take_in(pageledger_frame(BOTH, f, answer, PAGELEDGER_ANSWER_NUMBERS));
+    take_in(pageledger_guest(BOTH, g, answer + 3, PAGELEDGER_ANSWER_NUMBERS - 3));
+    take_in(pageledger_shared_with(BOTH, f, g));
+    for (int i = 0; i < PAGELEDGER_ANSWER_NUMBERS; i++)
+        take_in(answer[i]);
+    take_in(pageledger_translation(BOTH, g, a, access, answer, PAGELEDGER_ANSWER_NUMBERS));
+    for (int i = 0; i < PAGELEDGER_ANSWER_NUMBERS; i++)
+        take_in(answer[i]);
+}
+
+int main(void)
+{
+    for (size_t i = 0; i < sizeof words / sizeof *words; i++)
+        words[i] = descriptor();
+    for (int i = 0; i < WALKS; i++)
+        walk_at_random();
+    show("walks", WALKS);
+    for (int round = 0; round < ROUNDS; round++) {
+        take_in(pageledger_set_up(BOTH, FRAMES, base, 2));
+        for (int i = 0; i < OPERATIONS; i++) {
+            uint64_t answered = operate_at_random();
+            take_in(answered);
+            seen[answered & 15]++;
+            ask_at_random();
+            if (i % 50 == 0)
+                take_in_both();
+        }
+        take_in_both();
+    }
+    show("operations", ROUNDS * OPERATIONS);
+    return 0;
+}
