@@ -15,13 +15,13 @@ use Rattle.model.specs.Invariant.Numbers.{placed}
 use Rattle.ledger.specs.Layout.{size-of, first-of, kind-of, state-in, state-of, pick-of}
 use Rattle.ledger.specs.Words.{word-is}
 use Rattle.ledger.specs.Sound.{Sound, chosen}
-use Rattle.monitor.specs.Answers.{Answers, Outcome}
+use Rattle.monitor.specs.Answers.{Outcome}
 use Rattle.isolation.specs.Calls.{Call, defined, in-model, defined-is, chooses}
-use Rattle.isolation.specs.Slices.{Slices, kept-after, Looks, Step, called, Run, stop, then, Begun}
+use Rattle.isolation.specs.Slices.{Slices, Called, called, Run, stop, then, joined, Begun}
 use Rattle.isolation.specs.Runs.{are-runs, begun-is, always-sound}
 
 -- byte o of frame f in the model is the byte of RAM there
-byte-is : (x : Slices) → Sound (x .ram) (x .ledger) → (f o : ℕ) → f < size-of (x .ledger) → o < 4096 → byte (state-of (x .ram) (x .ledger)) f o ≡ getD (x .ram) (f * 4096 + o) 0
+pub byte-is : (x : Slices) → Sound (x .ram) (x .ledger) → (f o : ℕ) → f < size-of (x .ledger) → o < 4096 → byte (state-of (x .ram) (x .ledger)) f o ≡ getD (x .ram) (f * 4096 + o) 0
 unfolding state-in
 byte-is x ok f o low inside = ram-byte image (x .bytes) f o low inside ∙ ap (λ (i : ℕ). getD (x .ram) i 0) (omega arith)
   where
@@ -32,21 +32,17 @@ byte-is x ok f o low inside = ram-byte image (x .bytes) f o low inside ∙ ap (�
       words = λ f i _ k. sym (word-is (x .ram) f i k) ∙ ap (wordAt (x .ram)) (omega arith);
     }
 
-one-more : {x y z : Slices} → Run x y → Step y z → Run x z
-one-more stop s = then s stop
-one-more (then t r) s = then t (one-more r s)
-
-module _ {x y : Slices} (z : Slices) (begun : Begun x) (run : Run x y) (c : Call) (r : ℕ) (answers : Answers (defined c) (y .ram) (y .ledger) r (z .ram) (z .ledger)) (look : Looks z (kept-after c r (y .caches))) where
+module _ {x y : Slices} (z : Slices) (begun : Begun x) (run : Run x y) (c : Call) (r : ℕ) (a : Called c r y z) where
   as-many : size-of (z .ledger) ≡ size-of (y .ledger)
   unfolding state-in
   as-many =
-      let a : size-of (y .ledger) ≡ begun-is begun .n = placed (begun-is begun) (are-runs begun run .1) .size in
-      let b : size-of (z .ledger) ≡ begun-is begun .n = placed (begun-is begun) (are-runs begun (one-more {z = z} run (called c r answers look)) .1) .size in
+      let before : size-of (y .ledger) ≡ begun-is begun .n = placed (begun-is begun) (are-runs begun run .1) .size in
+      let after : size-of (z .ledger) ≡ begun-is begun .n = placed (begun-is begun) (are-runs begun (joined run (then (called c r a) stop)) .1) .size in
       omega arith
 
   pub contents : (f : ℕ) (k : Kind) → kind-of (y .ledger) f ≡ k → C.Held k → f < size-of (y .ledger) → (o : ℕ) → o < 4096 → getD (z .ram) (f * 4096 + o) 0 ≡ getD (y .ram) (f * 4096 + o) 0
   unfolding state-in
-  contents f k is held low o inside = go (defined c (state-of (y .ram) (y .ledger)) (pick-of (y .ledger))) refl (answers .outcome)
+  contents f k is held low o inside = go (defined c (state-of (y .ram) (y .ledger)) (pick-of (y .ledger))) refl (a .answers .outcome)
     where
       go : (u : Out) → defined c (state-of (y .ram) (y .ledger)) (pick-of (y .ledger)) ≡ u → Outcome u (y .ram) (y .ledger) r (z .ram) (z .ledger) →
           getD (z .ram) (f * 4096 + o) 0 ≡ getD (y .ram) (f * 4096 + o) 0
@@ -54,7 +50,7 @@ module _ {x y : Slices} (z : Slices) (begun : Begun x) (run : Run x y) (c : Call
       go (done s) e out =
           let ok = always-sound begun run in
           let many = as-many in
-          sym (byte-is z (answers .sound) f o (omega arith) inside)
+          sym (byte-is z (a .answers .sound) f o (omega arith) inside)
           ∙ ap (λ (t : State). byte t f o) (out .1)
           ∙ C.contents (begun-is begun) (are-runs begun run .1) (in-model c (pick-of (y .ledger)))
           (chooses c (state-of (y .ram) (y .ledger)) (pick-of (y .ledger)) (chosen (y .ledger) (ok .stock) (y .ram)))

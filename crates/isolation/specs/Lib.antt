@@ -3,6 +3,8 @@ pub mod Slices
 pub mod StoredByte
 pub mod Steps
 pub mod Runs
+pub mod Answered
+pub mod TwoComputers
 pub mod OnSlices
 pub mod Contents
 pub mod Possible

@@ -40,18 +40,34 @@ kept-after (Invalidated g) (suc r) k = k
 abbrev pub Looks : (y : Slices) → Caches → Type 1
 Looks y k = y .caches ≡ grown (state-of (y .ram) (y .ledger)) k
 
+-- any call with any numbers, answered with r, 0 or a refusal: the function's `ensures`
+pub record Called (c : Call) (r : ℕ) (x y : Slices) : Type 1 where
+  pub answers : Answers (defined c) (x .ram) (x .ledger) r (y .ram) (y .ledger)
+  pub looks : Looks y (kept-after c r (x .caches))
+
+-- a guest that exists stores byte b at offset o of frame f, which it reaches for writing
+pub record Stored (g f o b : ℕ) (x y : Slices) : Type 1 where
+  pub lives : exists-of (x .ledger) g ≡ true
+  pub in-ram : f < size-of (x .ledger)
+  pub in-frame : o < 4096
+  pub is-byte : b < 256
+  pub reaches : Reach (state-of (x .ram) (x .ledger)) (x .caches) g writing ((first-of (x .ledger) + f) * 4096 + o)
+  pub ram-after : y .ram ≡ set (x .ram) (f * 4096 + o) b
+  pub ledger-after : y .ledger ≡ x .ledger
+  pub looks : Looks y (x .caches)
+
 pub data Step (x y : Slices) : Type 1 where
-  -- any call with any numbers, answered with r, 0 or a refusal: the function's `ensures`
-  called : (c : Call) (r : ℕ) → Answers (defined c) (x .ram) (x .ledger) r (y .ram) (y .ledger) → Looks y (kept-after c r (x .caches)) → Step x y
-  -- a guest that exists stores byte b at offset o of frame f, which it reaches for writing
-  stored : (g f o b : ℕ) → exists-of (x .ledger) g ≡ true → f < size-of (x .ledger) → o < 4096 → b < 256 →
-      Reach (state-of (x .ram) (x .ledger)) (x .caches) g writing ((first-of (x .ledger) + f) * 4096 + o) →
-      y .ram ≡ set (x .ram) (f * 4096 + o) b → y .ledger ≡ x .ledger → Looks y (x .caches) → Step x y
+  called : (c : Call) (r : ℕ) → Called c r x y → Step x y
+  stored : (g f o b : ℕ) → Stored g f o b x y → Step x y
 
 -- one after the other
 pub data Run : Slices → Slices → Type 1 where
   stop : {x : Slices} → Run x x
   then : {x y z : Slices} → Step x y → Run y z → Run x z
+
+pub joined : {x y z : Slices} → Run x y → Run y z → Run x z
+joined stop r = r
+joined (then s q) r = then s (joined q r)
 
 -- set-up was answered with 0, whatever the slices held: its `ensures`; and nothing was kept
 pub record Begun (x : Slices) : Type 1 where

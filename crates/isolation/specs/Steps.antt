@@ -17,7 +17,7 @@ use Rattle.ledger.specs.Stock.{Stock}
 use Rattle.ledger.specs.Sound.{Sound, chosen, within}
 use Rattle.monitor.specs.Answers.{Answers, Outcome}
 use Rattle.isolation.specs.Calls.{Call, Create, Give, Take, Map, Unmap, Share, Unshare, Destroy, Invalidated, defined, in-model, defined-is, chooses}
-use Rattle.isolation.specs.Slices.{Slices, machine, kept-after, Looks, Step, called, stored}
+use Rattle.isolation.specs.Slices.{Slices, machine, kept-after, Looks, Called, Stored, Step, called, stored}
 use Rattle.isolation.specs.StoredByte.{state-put}
 
 -- what every operation requires; and what is kept leads only where it may
@@ -70,11 +70,10 @@ kept-done (Destroy g) pick r k q = refl
 kept-done (Invalidated g) pick r k q = ap (λ (z : ℕ). kept-after (Invalidated g) z k) q
 
 module _ (x y : Slices) where
-  after-call : (c : Call) (r : ℕ) → Answers (defined c) (x .ram) (x .ledger) r (y .ram) (y .ledger) → Looks y (kept-after c r (x .caches)) →
-      machine y ≡ M.call (machine x) (in-model c (pick-of (x .ledger)))
+  pub after-call : (c : Call) (r : ℕ) → Called c r x y → machine y ≡ M.call (machine x) (in-model c (pick-of (x .ledger)))
   unfolding M.call M.settle
-  after-call c r a look =
-      go (defined c (state-of (x .ram) (x .ledger)) (pick-of (x .ledger))) refl (a .outcome)
+  after-call c r a =
+      go (defined c (state-of (x .ram) (x .ledger)) (pick-of (x .ledger))) refl (a .answers .outcome)
       ∙ ap (M.settle (machine x) (M.keeps (x .caches) (in-model c (pick-of (x .ledger))))) (defined-is c (state-of (x .ram) (x .ledger)) (pick-of (x .ledger)))
     where
       go : (u : Out) → defined c (state-of (x .ram) (x .ledger)) (pick-of (x .ledger)) ≡ u → Outcome u (x .ram) (x .ledger) r (y .ram) (y .ledger) →
@@ -82,25 +81,27 @@ module _ (x y : Slices) where
       go (refuse n) e o =
           machine-is y (state-of (x .ram) (x .ledger)) (kept-after c r (x .caches)) (x .caches)
           (ap (λ (m : List ℕ). state-of m (y .ledger)) (o .1) ∙ ap (λ (l : List ℕ). state-of (x .ram) l) (o .2))
-          look (kept-refused c (state-of (x .ram) (x .ledger)) (pick-of (x .ledger)) n r (x .caches) e (o .0))
-      go (done s) e o = machine-is y s (kept-after c r (x .caches)) (M.keeps (x .caches) (in-model c (pick-of (x .ledger)))) (o .1) look (kept-done c (pick-of (x .ledger)) r (x .caches) (o .0))
+          (a .looks) (kept-refused c (state-of (x .ram) (x .ledger)) (pick-of (x .ledger)) n r (x .caches) e (o .0))
+      go (done s) e o = machine-is y s (kept-after c r (x .caches)) (M.keeps (x .caches) (in-model c (pick-of (x .ledger)))) (o .1) (a .looks) (kept-done c (pick-of (x .ledger)) r (x .caches) (o .0))
 
-  after-store : Fit x → (f o b : ℕ) → f < size-of (x .ledger) → o < 4096 → y .ram ≡ set (x .ram) (f * 4096 + o) b → y .ledger ≡ x .ledger → Looks y (x .caches) →
-      machine y ≡ M.write (machine x) f o b
+  pub after-store : Fit x → (g f o b : ℕ) → Stored g f o b x y → machine y ≡ M.write (machine x) f o b
   unfolding M.write
-  after-store h f o b low inside p q look =
+  after-store h g f o b a =
       machine-is y (M.stored (state-of (x .ram) (x .ledger)) f o b) (x .caches) (x .caches)
-      (ap (λ (m : List ℕ). state-of m (y .ledger)) p ∙ ap (λ (l : List ℕ). state-of (set (x .ram) (f * 4096 + o) b) l) q
-      ∙ state-put (x .ram) (x .bytes) b f o (within (x .ram) (x .ledger) (h .sound) f low) inside (x .ledger))
-      look refl
+      (ap (λ (m : List ℕ). state-of m (y .ledger)) (a .ram-after) ∙ ap (λ (l : List ℕ). state-of (set (x .ram) (f * 4096 + o) b) l) (a .ledger-after)
+      ∙ state-put (x .ram) (x .bytes) b f o (within (x .ram) (x .ledger) (h .sound) f (a .in-ram)) (a .in-frame) (x .ledger))
+      (a .looks) refl
+
+-- the code takes free frames as the model asks
+pub chosen-so : {x : Slices} → Fit x → (c : Call) → M.Chooses (state-of (x .ram) (x .ledger)) (in-model c (pick-of (x .ledger)))
+chosen-so {x} h c = chooses c (state-of (x .ram) (x .ledger)) (pick-of (x .ledger)) (chosen (x .ledger) (h .sound .stock) (x .ram))
 
 pub step-is-step : {x y : Slices} → Fit x → Step x y → M.Step (machine x) (machine y)
 unfolding state-in
-step-is-step {x} {y} h (called c r a look) =
-    subst (λ (z : M.Machine). M.Step (machine x) z) (sym (after-call x y c r a look))
-    (M.calls (in-model c (pick-of (x .ledger))) (chooses c (state-of (x .ram) (x .ledger)) (pick-of (x .ledger)) (chosen (x .ledger) (h .sound .stock) (x .ram))))
-step-is-step {x} {y} h (stored g f o b there low inside byte reach p q look) =
-    subst (λ (z : M.Machine). M.Step (machine x) z) (sym (after-store x y h f o b low inside p q look)) (M.stores g f o b there low inside byte reach)
+step-is-step {x} {y} h (called c r a) =
+    subst (λ (z : M.Machine). M.Step (machine x) z) (sym (after-call x y c r a)) (M.calls (in-model c (pick-of (x .ledger))) (chosen-so h c))
+step-is-step {x} {y} h (stored g f o b a) =
+    subst (λ (z : M.Machine). M.Step (machine x) z) (sym (after-store x y h g f o b a)) (M.stores g f o b (a .lives) (a .in-ram) (a .in-frame) (a .is-byte) (a .reaches))
 
 pub step-fits : {x y : Slices} → Fit x → Step x y → Fit y
 step-fits {x} {y} h s = record { sound = go s (after .core); kept = after .kept }
@@ -109,9 +110,9 @@ step-fits {x} {y} h s = record { sound = go s (after .core); kept = after .kept 
     after = step-holds (step-is-step h s) (fit-holds h)
 
     go : Step x y → Core (state-of (y .ram) (y .ledger)) → Sound (y .ram) (y .ledger)
-    go (called c r a look) core = a .sound
-    go (stored g f o b there low inside byte reach p q look) core = record {
-      stock = subst (λ (l : List ℕ). Stock l) (sym q) (h .sound .stock);
-      ram-fits = ap (λ (m : List ℕ). length m) p ∙ length-set (x .ram) (f * 4096 + o) b ∙ h .sound .ram-fits ∙ ap (λ (l : List ℕ). size-of l * 4096) (sym q);
+    go (called c r a) core = a .answers .sound
+    go (stored g f o b a) core = record {
+      stock = subst (λ (l : List ℕ). Stock l) (sym (a .ledger-after)) (h .sound .stock);
+      ram-fits = ap (λ (m : List ℕ). length m) (a .ram-after) ∙ length-set (x .ram) (f * 4096 + o) b ∙ h .sound .ram-fits ∙ ap (λ (l : List ℕ). size-of l * 4096) (sym (a .ledger-after));
       core = core;
     }
