@@ -33,7 +33,6 @@ pub mod Moments
 pub mod StoresEnd
 pub mod NewGuest
 pub mod Fine
-pub mod Tidy
 pub mod Frames
 pub mod Descriptors
 pub mod Bridge

@@ -14,4 +14,3 @@ pub mod Theorems
 pub mod Isolation
 pub mod Worked
 pub mod WalkLaws
-pub mod ForCode

@@ -6,7 +6,7 @@ use mathlib.Core.Option.{Option, none, some}
 use mathlib.Core.Path.{_≡_}
 use Prim.Native.Nat.{ℕ, zero, suc, _+_, _*_, _<_, _/_, _%_}
 use Rattle.model.specs.Base.{upd2}
-use Rattle.model.specs.State.{State}
+use Rattle.model.specs.State.{State, reworded}
 use Rattle.model.specs.Entry.{table-entry, page-entry}
 use Rattle.model.specs.Translate.{upper, index, entry-at, into, leaf}
 use Rattle.model.specs.Changes.{with-table, grow}
@@ -62,29 +62,15 @@ unfoldable pub after-stores : (ℕ → ℕ → ℕ) → List Store → ℕ → �
 after-stores w [] = w
 after-stores w (x ∷ rest) = after-stores (store w x) rest
 
--- the ledger of s, with these words in RAM
-unfoldable pub with-words : State → (ℕ → ℕ → ℕ) → State
-with-words s w = record {
-  size = s .size;
-  first = s .first;
-  kind = s .kind;
-  shared = s .shared;
-  count = s .count;
-  exists = s .exists;
-  root = s .root;
-  dirty = s .dirty;
-  word = w;
-}
-
 -- P of the words in RAM and of what is kept: before the first store and after each; the processor keeps all that it can find at each of these moments
 abbrev pub Throughout : (s : State) (P : Caches → (ℕ → ℕ → ℕ) → Type 0) → Caches → (ℕ → ℕ → ℕ) → List Store → Type 0
 Throughout s P k w [] = P k w
-Throughout s P k w (x ∷ rest) = P k w × Throughout s P (grown (with-words s (store w x)) k) (store w x) rest
+Throughout s P k w (x ∷ rest) = P k w × Throughout s P (grown (reworded s (store w x)) k) (store w x) rest
 
 -- what is kept when the stores have been made: the processor has looked after each
 unfoldable pub during : State → Caches → (ℕ → ℕ → ℕ) → List Store → Caches
 during s k w [] = k
-during s k w (x ∷ rest) = during s (grown (with-words s (store w x)) k) (store w x) rest
+during s k w (x ∷ rest) = during s (grown (reworded s (store w x)) k) (store w x) rest
 
 -- Steps and runs as in Machine, but with the processor looking after every single store of an operation, and not only when it is done.
 unfoldable pub settle-finely : Machine → Operation → Out → Machine

@@ -8,7 +8,7 @@ use native.Mathlib.Omega.{arith}
 use lib.Dec.{eqb, ltb, leb}
 use borrow.Author.Tests.{leb-true, le-leb, eq-eqb}
 use Rattle.model.specs.Base.{bool?, upd2, upd2-other}
-use Rattle.model.specs.State.{State, monitor, free, put-byte, byte}
+use Rattle.model.specs.State.{State, monitor, free, put-byte, byte, reworded, tabled}
 use Rattle.model.specs.Translate.{index}
 use Rattle.model.specs.Operations.{Out, refuse, done, check, at-first, started, set-up}
 use Rattle.model.specs.Cache.{Caches, Table, from-root, from-kept, from-word, Translation, kept, read-off, descriptor, grown, forget, nothing-kept, Access, reading, writing, executing, Reach}
@@ -20,7 +20,7 @@ use Rattle.model.specs.Invariant.Found.{table-found}
 use Rattle.model.specs.Invariant.Answer.{then-done, Good}
 use Rattle.model.specs.Invariant.Holds.{Holds, answer-good, step-holds, set-up-holds}
 use Rattle.model.specs.Invariant.Allowed.{frame-allowed}
-use Rattle.model.specs.Invariant.Reworded.{reworded, tabled, Agrees, agrees-stored, agrees-apart, agrees-turned}
+use Rattle.model.specs.Invariant.Reworded.{Agrees, agrees-stored, agrees-apart, agrees-turned}
 use Rattle.model.specs.Invariant.Echo.{Both, both-refuse, both-done, Echo, answer-echo, frame-bytes, bytes-frame}
 
 -- the same translations are kept, for every guest

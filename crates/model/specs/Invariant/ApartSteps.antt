@@ -8,7 +8,7 @@ use native.Mathlib.Omega.{arith}
 use lib.Dec.{eqb, leb}
 use borrow.Author.Tests.{eqb-true, eqb-false, ne-eqb}
 use Rattle.model.specs.Base.{upd2-other}
-use Rattle.model.specs.State.{State, Kind, monitor, free, table, draining-table, page, draining-page, put-byte, byte-of, byte, pages}
+use Rattle.model.specs.State.{State, Kind, monitor, free, table, draining-table, page, draining-page, put-byte, byte-of, byte, pages, reworded, tabled}
 use Rattle.model.specs.Entry.{entry}
 use Rattle.model.specs.Translate.{entry-at, translate}
 use Rattle.model.specs.Operations.{Out, refuse, done}
@@ -25,7 +25,6 @@ use Rattle.model.specs.Invariant.Effects.{rows, same-translate}
 use Rattle.model.specs.Invariant.Bytes.{bytes-stay}
 use Rattle.model.specs.Invariant.Unreached.{keeps-less}
 use Rattle.model.specs.Invariant.Linked.{Linked, answer-linked}
-use Rattle.model.specs.Invariant.Reworded.{reworded, tabled}
 use Rattle.model.specs.Invariant.Alike.{step-closed, page-echo, stores-page, stores-step, written}
 use Rattle.model.specs.Invariant.Apart.{role, role-of, role-after, dirty-after, Turns, answer-turns}
 use Rattle.model.specs.Invariant.ApartKept.{reported, Recalls, Sane, sane-holds, sane-linked, keeps-more, now-kept, same-first, sound, stale-kept, found-is}

@@ -9,7 +9,7 @@ use native.Mathlib.Nat.{div-add-mod'}
 use lib.Dec.{eqb, ltb, leb}
 use borrow.Author.Tests.{leb-true}
 use Rattle.model.specs.Base.{eq?, bool?, and-true, upd, upd-same, upd-at, upd-other, upd2, upd2-at, upd2-other}
-use Rattle.model.specs.State.{State, Kind, monitor, free, table, draining-table, page, draining-page, is-page-of, free-frames, pages, byte}
+use Rattle.model.specs.State.{State, Kind, monitor, free, table, draining-table, page, draining-page, is-page-of, free-frames, pages, byte, reworded, tabled}
 use Rattle.model.specs.Entry.{Entry, empty, to-table, to-page, other, entry, page-entry, table-entry}
 use Rattle.model.specs.Translate.{upper, index, entry-at, into, leaf, translate, missing-from, missing}
 use Rattle.model.specs.Changes.{Choice, zeros, becomes, with-root, with-table, Grown, grow, with-page, with-mapping, without-page, without-mapping, drained, without-guest, released, clean}
@@ -24,7 +24,7 @@ use Rattle.model.specs.Invariant.Choice.{first-free, fewer, rest-chosen}
 use Rattle.model.specs.Invariant.Grow.{zero-missing}
 use Rattle.model.specs.Invariant.MapUnmap.{address-low, some-is}
 use Rattle.model.specs.Invariant.Effects.{same-translate}
-use Rattle.model.specs.Invariant.Reworded.{reworded, tabled, Same-frame, Agrees, agrees-set, agrees-zero, agrees-less}
+use Rattle.model.specs.Invariant.Reworded.{Same-frame, Agrees, agrees-set, agrees-zero, agrees-less}
 
 -- two answers: refused alike, or done with states that stand so to one another
 pub data Both (P : State → State → Type 0) : Out → Out → Type 0 where

@@ -5,14 +5,14 @@ use Prim.Native.Nat.{ℕ, _/_, _%_}
 use native.Mathlib.Omega.{arith}
 use borrow.Author.Tests.{leb-true}
 use Rattle.model.specs.Base.{not-true, upd2}
-use Rattle.model.specs.State.{State, free, free-frames}
+use Rattle.model.specs.State.{State, free, free-frames, reworded}
 use Rattle.model.specs.Entry.{page-entry}
 use Rattle.model.specs.Translate.{translate, mapped, missing}
 use Rattle.model.specs.Changes.{Choice, Grown, grow, with-page, without-page}
 use Rattle.model.specs.Operations.{create, give, map, unmap, take, share, unshare, destroy, invalidated}
 use Rattle.model.specs.Cache.{Caches, grown}
 use Rattle.model.specs.Machine.{Operation, Create, Give, Take, Map, Unmap, Share, Unshare, Destroy, Invalidated, answer, Chooses}
-use Rattle.model.specs.Moments.{Store, clear, stores-of, store, with-words, Throughout}
+use Rattle.model.specs.Moments.{Store, clear, stores-of, store, Throughout}
 use Rattle.model.specs.Invariant.Kinds.{free-is}
 use Rattle.model.specs.Invariant.Core.{Core, Kept}
 use Rattle.model.specs.Invariant.Way.{root-serves, leaf-kind, translate-from}
@@ -76,7 +76,7 @@ module _ (z : State) (c : Core z) (k : Caches) (q : Kept z k) where
             let f1 = y .first in
             let c′ = page-core (x .state) (y .core) (x .last) g (v / 512) (v % 512) (y .last) (omega arith) f r w (y .may g f r m) (rights-low r e4) in
             let q′ = page-kept (x .state) (y .core) (x .last) g (v / 512) (v % 512) (y .last) (omega arith) f r w (y .may g f r m) (rights-low r e4) k′ (sh .kept) in
-            safe z (grown (with-words z (store w′ last)) k′) (store w′ last) (with-page (x .state) (x .last) (v % 512) f r g)
+            safe z (grown (reworded z (store w′ last)) k′) (store w′ last) (with-page (x .state) (x .last) (v % 512) f r g)
             (look z k′ (store w′ last) (with-page (x .state) (x .last) (v % 512) f r g) (set-mapped f g a r pick k′ w′ sh c′ q′ f1)),
       )))
     where
@@ -98,7 +98,7 @@ module _ (z : State) (c : Core z) (k : Caches) (q : Kept z k) where
       let ht = leaf-kind z c g (a / 4096) (w .0) (address-low a e2) (w .1) in
       then-done (rw (w .1) (
         safe z k (z .word) z not-begun,
-        safe z (grown (with-words z (upd2 (z .word) (w .0) (a / 4096 % 512) 0)) k) (upd2 (z .word) (w .0) (a / 4096 % 512) 0)
+        safe z (grown (reworded z (upd2 (z .word) (w .0) (a / 4096 % 512) 0)) k) (upd2 (z .word) (w .0) (a / 4096 % 512) 0)
             (without-page z (w .0) (a / 4096 % 512) (o .0) g)
             (look z k (upd2 (z .word) (w .0) (a / 4096 % 512) 0) (without-page z (w .0) (a / 4096 % 512) (o .0) g) (emptied g a (w .0) (o .0)
             (empty-core z c (w .0) g (a / 4096 / 512) (a / 4096 % 512) ht (omega arith) (o .0) (o .1) (w .2)) (empty-kept z c (w .0) g (a / 4096 / 512) (a / 4096 % 512) ht (omega arith) (o .0) (o .1) (w .2) k q))),

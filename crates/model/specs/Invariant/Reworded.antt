@@ -1,37 +1,15 @@
 -- The same ledger over other words: where the words of the tables are the same, every operation answers the same.
 -- What of the words is the same (Agrees): those of every table, and the bytes of what guest g may read.
 use mathlib.Core.Path.{_≡_, sym, ap, _∙_}
-use mathlib.Core.Bool.{Bool, true, false}
+use mathlib.Core.Bool.{true, false}
 use mathlib.Core.Logic.{_⊎_, inl, inr}
 use Prim.Native.Nat.{ℕ, _<_, _/_, _%_}
 use native.Mathlib.Omega.{arith}
 use Rattle.model.specs.Base.{eq?, upd, upd-at, upd-other, upd2, upd2-at, upd2-other}
-use Rattle.model.specs.State.{State, Kind, monitor, free, table, draining-table, page, draining-page, byte-of, put-byte}
+use Rattle.model.specs.State.{Kind, byte-of, put-byte, tabled}
 use Rattle.model.specs.Changes.{zeros}
 use Rattle.model.specs.Theorems.TwoRunsTerms.{reads}
 use Rattle.model.specs.Invariant.Bytes.{byte-put-same, byte-put-other}
-
-abbrev pub reworded : State → (ℕ → ℕ → ℕ) → State
-reworded s w = record {
-  size = s .size;
-  first = s .first;
-  kind = s .kind;
-  shared = s .shared;
-  count = s .count;
-  exists = s .exists;
-  root = s .root;
-  dirty = s .dirty;
-  word = w;
-}
-
--- a frame that holds a table, in use or draining
-abbrev pub tabled : Kind → Bool
-tabled monitor = false
-tabled free = false
-tabled (table h n p) = true
-tabled (draining-table h n p) = true
-tabled (page h) = false
-tabled (draining-page h) = false
 
 -- the bytes of a frame, in its words
 abbrev pub Same-frame : (a b : ℕ → ℕ) → Type 0

@@ -3,10 +3,9 @@ use mathlib.Core.Path.{_≡_, refl, sym, ap, _∙_}
 use mathlib.Core.Logic.{inl, inr}
 use Prim.Native.Nat.{ℕ, suc, _+_, _<_, _/_}
 use native.Mathlib.Omega.{arith}
-use Rattle.model.specs.State.{State, free, table, draining-table, page, draining-page}
+use Rattle.model.specs.State.{State, free, table, draining-table, page, draining-page, reworded}
 use Rattle.model.specs.Translate.{index}
 use Rattle.model.specs.Cache.{descriptor, Caches, Table, from-root, from-kept, from-word, Translation, kept, read-off, grown, Access, Reach}
-use Rattle.model.specs.Moments.{with-words}
 use Rattle.model.specs.Theorems.Terms.{Allowed}
 use Rattle.model.specs.Invariant.Kinds.{clash}
 use Rattle.model.specs.Invariant.Core.{Core, Kept}
@@ -49,16 +48,14 @@ module _ (z : State) (k : Caches) (w : ℕ → ℕ → ℕ) (s : State) (sh : Sh
         | inr y ↦ clash {x = free} {y = draining-table g h p} (sym f ∙ y) refl
       ])
 
-  pub table-through : {h p x : ℕ} → Table (with-words z w) k g h p x → Table s k g h p x
-  unfolding with-words
+  pub table-through : {h p x : ℕ} → Table (reworded z w) k g h p x → Table s k g h p x
   table-through (from-root {x} l e) = from-root {x = x} (sh .exists g ∙ l) (let a = sh .first in let b = sh .root g in omega arith)
   table-through (from-kept x) = from-kept x
   table-through (from-word {h} {p} {x} {y} a t i e l m d) =
       let a′ = table-through a in
       from-word {x = x} {y = y} a′ t i (let f = sh .first in omega arith) (let n = sh .size in omega arith) m (ap (descriptor (suc h)) (same-word a′ t i e m) ∙ d)
 
-  pub page-through : {v x r : ℕ} → Translation (with-words z w) k g v x r → Translation s k g v x r
-  unfolding with-words
+  pub page-through : {v x r : ℕ} → Translation (reworded z w) k g v x r → Translation s k g v x r
   page-through (kept a) = kept a
   page-through {v} (read-off {x} {r} h y t p a e l d o) =
       let a′ = table-through a in
@@ -66,10 +63,10 @@ module _ (z : State) (k : Caches) (w : ℕ → ℕ → ℕ) (s : State) (sh : Sh
 
 module _ (z : State) where
   -- the processor looks
-  pub look : (k : Caches) (w : ℕ → ℕ → ℕ) (s : State) → Shadow z k w s → Shadow z (grown (with-words z w) k) w s
+  pub look : (k : Caches) (w : ℕ → ℕ → ℕ) (s : State) → Shadow z k w s → Shadow z (grown (reworded z w) k) w s
   look k w s sh = record {
     core = sh .core;
-    kept = kept-less s (grown s k) (grown (with-words z w) k) (unfold grown in λ g h p x a. table-through z k w s sh g a) (unfold grown in λ g v x r a. page-through z k w s sh g a) (grown-kept s k (sh .core) (sh .kept));
+    kept = kept-less s (grown s k) (grown (reworded z w) k) (unfold grown in λ g h p x a. table-through z k w s sh g a) (unfold grown in λ g v x r a. page-through z k w s sh g a) (grown-kept s k (sh .core) (sh .kept));
     first = sh .first;
     size = sh .size;
     exists = sh .exists;
@@ -82,7 +79,7 @@ module _ (z : State) where
 
   -- what is reached at such a moment
   abbrev pub Safe : Caches → (ℕ → ℕ → ℕ) → Type 0
-  Safe k w = (g : ℕ) (acc : Access) (a : ℕ) → Reach (with-words z w) k g acc a → (f : ℕ) × (a / 4096 ≡ z .first + f) × Allowed z g f acc
+  Safe k w = (g : ℕ) (acc : Access) (a : ℕ) → Reach (reworded z w) k g acc a → (f : ℕ) × (a / 4096 ≡ z .first + f) × Allowed z g f acc
 
   pub safe : (k : Caches) (w : ℕ → ℕ → ℕ) (s : State) → Shadow z k w s → Safe k w
   safe k w s sh g acc a x =

@@ -9,12 +9,12 @@ use native.Mathlib.Omega.{arith}
 use native.Mathlib.Nat.{div-add-mod'}
 use lib.Dec.{eqb}
 use Rattle.model.specs.Base.{eq?, upd-same, upd-other, upd2, upd2-same, upd2-at, upd2-other}
-use Rattle.model.specs.State.{State, Kind, free, table, page, draining-page, free-frames}
+use Rattle.model.specs.State.{State, Kind, free, table, page, draining-page, free-frames, reworded}
 use Rattle.model.specs.Entry.{Entry, empty, to-table, to-page, other, table-entry}
 use Rattle.model.specs.Translate.{upper, index, entry-at, into, missing-from}
 use Rattle.model.specs.Changes.{Choice, with-table, grow}
 use Rattle.model.specs.Cache.{Caches, kept, grown}
-use Rattle.model.specs.Moments.{Store, clear-from, clear, grow-stores, store, with-words}
+use Rattle.model.specs.Moments.{Store, clear-from, clear, grow-stores, store}
 use Rattle.model.specs.Invariant.Kinds.{sort, kind-from}
 use Rattle.model.specs.Invariant.Core.{Core, Kept}
 use Rattle.model.specs.Invariant.Way.{step-kind}
@@ -110,7 +110,7 @@ module _ (z : State) where
 
 -- G: what is to be shown of the stores that are left, with what is kept and the words there; it follows from the same after the first of them
 module _ (z : State) (G : Caches → (ℕ → ℕ → ℕ) → List Store → Type 0)
-    (cons : (k : Caches) (w : ℕ → ℕ → ℕ) (x : Store) (rest : List Store) → Safe z k w → G (grown (with-words z (store w x)) k) (store w x) rest → G k w (x ∷ rest)) where
+    (cons : (k : Caches) (w : ℕ → ℕ → ℕ) (x : Store) (rest : List Store) → Safe z k w → G (grown (reworded z (store w x)) k) (store w x) rest → G k w (x ∷ rest)) where
   -- clearing: whatever is proved of what comes after it is proved of the whole
   pub through-clear : (n i f : ℕ) (s : State) → s .kind f ≡ free → (rest : List Store) (k : Caches) (w : ℕ → ℕ → ℕ) → Shadow z k w s →
       ((k′ : Caches) (w′ : ℕ → ℕ → ℕ) → Shadow z k′ w′ s → Cleared w f i n w′ → G k′ w′ rest) → G k w (clear-from f i n ++ rest)
@@ -118,7 +118,7 @@ module _ (z : State) (G : Caches → (ℕ → ℕ → ℕ) → List Store → Ty
   through-clear zero i f s hf rest k w sh then-rest = then-rest k w sh (cleared-none w f i)
   through-clear (suc n) i f s hf rest k w sh then-rest =
       cons k w (record { frame = f; index = i; value = 0 }) (clear-from f (suc i) n ++ rest) (safe z k w s sh)
-      (through-clear n (suc i) f s hf rest (grown (with-words z (upd2 w f i 0)) k) (upd2 w f i 0) (look z k (upd2 w f i 0) s (free-store z k w s f i 0 hf sh)) (λ k′ w′ sh′ c. then-rest k′ w′ sh′ (cleared-more w w′ f i n c)))
+      (through-clear n (suc i) f s hf rest (grown (reworded z (upd2 w f i 0)) k) (upd2 w f i 0) (look z k (upd2 w f i 0) s (free-store z k w s f i 0 hf sh)) (λ k′ w′ sh′ c. then-rest k′ w′ sh′ (cleared-more w w′ f i n c)))
 
   -- the tables that map makes
   pub through-grow : (h : ℕ) (s : State) (g t v : ℕ) (pick : ℕ → ℕ) → Choice s pick → missing-from s h t v ≤ free-frames s → s .kind t ≡ table g h (upper (suc h) v) →
@@ -161,7 +161,7 @@ module _ (z : State) (G : Caches → (ℕ → ℕ → ℕ) → List Store → Ty
           rw append-assoc (through-clear 512 0 t′ s f (one ∷ (New ++ rest)) k w sh (λ k′ w′ sh′ cl.
           cons k′ w′ one (New ++ rest) (safe z k′ w′ s sh′)
           (ih s1 g t′ v (λ j. pick (suc j)) (rest-chosen s c pick ch some t i g h (upper (suc h) v)) (rw n1 (omega arith)) (unfold with-table in upd-same (s .kind) t′ (table g h (upper (suc h) v)))
-          rest (grown (with-words z (store w′ one)) k′) (store w′ one)
+          rest (grown (reworded z (store w′ one)) k′) (store w′ one)
           (look z k′ (store w′ one) s1 (link z k′ w′ s t i t′ g h (upper (suc (suc h)) v) (upper (suc h) v) a (omega arith) e z1 f (λ j m. cl .zeros j (omega arith) (omega arith)) sh′))
           then-rest)))
 
