@@ -26,13 +26,7 @@ pub mod Unreached
 pub mod Linked
 pub mod Hung
 pub mod Reclaim
-pub mod Reaching
-pub mod Shadow
-pub mod Stores
-pub mod Moments
-pub mod StoresEnd
 pub mod NewGuest
-pub mod Fine
 pub mod Frames
 pub mod Descriptors
 pub mod Bridge
@@ -41,13 +35,3 @@ pub mod RoundTrip
 pub mod Seen
 pub mod Image
 pub mod Wide
-pub mod Reworded
-pub mod Echo
-pub mod Alike
-pub mod Apart
-pub mod ApartKept
-pub mod ApartSteps
-pub mod ApartFrames
-pub mod ApartAnswers
-pub mod ApartRuns
-pub mod Beside
