@@ -1,3 +1,4 @@
+pub mod Isolation
 pub mod Calls
 pub mod Slices
 pub mod StoredByte

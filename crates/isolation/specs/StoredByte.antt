@@ -4,31 +4,17 @@ use mathlib.Core.Logic.{_⊎_, inl, inr}
 use mathlib.Core.List.{List}
 use Prim.Native.Nat.{ℕ, zero, suc, _+_, _*_, _≤_, _<_, _/_, _%_}
 use native.Mathlib.Omega.{arith}
-use native.Mathlib.Nat.{add-assoc}
 use lib.ListN.{length, getD, set}
 use lib.Seq.{getD-set-same, getD-set-other}
 use borrow.Author.Tests.{lt-ltb, le-ltb}
 use Rattle.memory.specs.Word.{wordAt}
+use Rattle.memory.specs.Bytes.{bytes-from, word-bytes, bytes-agree}
 use Rattle.memory.specs.Laws.{word-agree}
 use Rattle.model.specs.Base.{eq?, lt?, upd2, upd2-at, upd2-other}
 use Rattle.model.specs.State.{put-byte}
 use Rattle.model.specs.Machine.{stored}
 use Rattle.ledger.specs.Layout.{word-of, state-in, state-of}
 use Rattle.ledger.specs.Words.{Within}
-
--- the number of n + 1 bytes from `at` on, lowest first
-unfoldable bytes-from : (n : ℕ) → List ℕ → ℕ → ℕ
-bytes-from zero m at = getD m at 0
-bytes-from (suc n) m at = getD m at 0 + 256 * bytes-from n m (at + 1)
-
-word-bytes : (m : List ℕ) (at : ℕ) → wordAt m at ≡ bytes-from 7 m at
-unfolding wordAt bytes-from
-word-bytes m at = simp add-assoc
-
-bytes-agree : (n : ℕ) (m l : List ℕ) (at : ℕ) → ((i : ℕ) → at ≤ i → getD m i 0 ≡ getD l i 0) → bytes-from n m at ≡ bytes-from n l at
-unfolding bytes-from
-bytes-agree zero m l at h = h at (omega arith)
-bytes-agree (suc n) m l at h = let a = h at (omega arith) in let b = bytes-agree n m l (at + 1) (λ i p. h i (omega arith)) in omega arith
 
 -- another lowest byte; another byte further up
 put-first : (d r x : ℕ) → d < 256 → x + 256 * r ≡ put-byte 0 (d + 256 * r) x
@@ -49,7 +35,7 @@ module _ (m : List ℕ) (low : (i : ℕ) → getD m i 0 < 256) (x : ℕ) where
   bytes-put zero at (suc k) l room = absurd (omega arith)
   bytes-put (suc n) at zero l room =
       let here : getD (set m (at + 0) x) at 0 ≡ x = ap (λ (i : ℕ). getD (set m i x) at 0) (omega arith) ∙ getD-set-same m at x 0 (omega arith) in
-      let rest = bytes-agree n (set m (at + 0) x) m (at + 1) (λ i p. getD-set-other m (at + 0) i x 0 (λ (e : i ≡ at + 0). omega arith)) in
+      let rest = bytes-agree n (set m (at + 0) x) m (at + 1) (at + 1) (λ i p. getD-set-other m (at + 0) (at + 1 + i) x 0 (λ (e : at + 1 + i ≡ at + 0). omega arith)) in
       rw (here, rest) (put-first (getD m at 0) (bytes-from n m (at + 1)) x (low at))
   bytes-put (suc n) at (suc k) l room =
       let here : getD (set m (at + suc k) x) at 0 ≡ getD m at 0 = getD-set-other m (at + suc k) at x 0 (λ (e : at ≡ at + suc k). omega arith) in

@@ -10,9 +10,8 @@ use lib.Seq.{length-take-le, length-front, take-at, drop-at, take-set-lt}
 use borrow.Author.Tests.{leb-true, ltb-true, eqb-true, ne-eqb}
 use Rattle.memory.specs.Word.{storedAt, clearedAt}
 use Rattle.memory.specs.Laws.{length-kept, cleared-length}
-use Rattle.model.specs.State.{Kind, monitor, free, table, draining-table, page, draining-page}
+use Rattle.model.specs.State.{Kind, monitor, free, table, draining-table, page, draining-page, tabled}
 use Rattle.model.specs.Invariant.Kinds.{sort}
-use Rattle.model.specs.Invariant.Reworded.{tabled}
 use Rattle.ledger.specs.Layout.{words-for, first-of, kind-of}
 use Rattle.ledger.specs.Sound.{Sound}
 use Rattle.ledger.specs.Beside.{word-beside}

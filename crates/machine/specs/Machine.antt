@@ -8,7 +8,7 @@ use lib.Dec.{ltb, leb, eqb}
 use lib.ListN.{length, take, drop}
 use Rattle.memory.specs.Word.{wordAt, storedAt, clearedAt}
 use Rattle.walk.specs.Both.{answer-2, answer}
-use Rattle.model.specs.Invariant.Reworded.{tabled}
+use Rattle.model.specs.State.{tabled}
 use Rattle.ledger.specs.Layout.{words-for, first-of, kind-of, exists-of, root-of, state-of}
 use Rattle.ledger.specs.Sound.{Sound}
 use Rattle.monitor.specs.Answers.{Answers}

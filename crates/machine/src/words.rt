@@ -2,7 +2,7 @@
 ghost use mathlib.Core.Path.{_≡_};
 ghost use mathlib.Core.Bool.{true, not, _&&_, _||_};
 ghost use Prim.Native.Nat.{_+_, _*_, _/_, _^_, _<_, _≤_};
-ghost use Rattle.model.specs.Invariant.Reworded.{tabled};
+ghost use Rattle.model.specs.State.{tabled};
 ghost use Rattle.ledger.specs.Layout.{size-of, kind-of};
 ghost use Rattle.ledger.specs.Stock.{Stock};
 ghost use Rattle.language.specs.declared.Command.the-variants.{StoreWord};

@@ -4,32 +4,16 @@ use mathlib.Core.Path.{_≡_, refl, _∙_}
 use mathlib.Core.List.{List}
 use mathlib.Core.Logic.{inl, inr}
 use native.Mathlib.Numerals.{add-one}
-use native.Mathlib.Nat.{eq-or-lt-of-le, le-of-suc-le-suc, not-suc-le-zero, add-zero, div-one}
+use native.Mathlib.Nat.{eq-or-lt-of-le, le-of-suc-le-suc, not-suc-le-zero, add-zero, zero-add, div-one}
 use native.Mathlib.Omega.{arith}
 use lib.ListN.{take, drop, getD, set, length, length-set}
 use lib.Seq.{getD-take, getD-drop, getD-set-same, getD-set-other}
 use Rattle.memory.specs.Word.{wordAt, storedAt, clearedAt}
+use Rattle.memory.specs.Bytes.{word-bytes, bytes-agree, bytes-made}
 
 -- two lists that agree on the eight bytes have the same word
 pub word-agree : (m l : List ℕ) (at : ℕ) → ((i : ℕ) → at ≤ i → i < at + 8 → getD m i 0 ≡ getD l i 0) → wordAt m at ≡ wordAt l at
-unfolding wordAt
-word-agree m l at h =
-    omega (
-      arith,
-      h at (omega arith) (omega arith),
-      h (at + 1) (omega arith) (omega arith),
-      h (at + 2) (omega arith) (omega arith),
-      h (at + 3) (omega arith) (omega arith),
-      h (at + 4) (omega arith) (omega arith),
-      h (at + 5) (omega arith) (omega arith),
-      h (at + 6) (omega arith) (omega arith),
-      h (at + 7) (omega arith) (omega arith),
-    )
-
--- a word of bytes is below 2^64
-pub word-below : (m : List ℕ) (at : ℕ) → ((i : ℕ) → getD m i 0 < 256) → wordAt m at < 2 ^ 64
-unfolding wordAt
-word-below m at h = omega (arith, h at, h (at + 1), h (at + 2), h (at + 3), h (at + 4), h (at + 5), h (at + 6), h (at + 7))
+word-agree m l at h = rw (word-bytes m, word-bytes l) (bytes-agree 7 m l at at (λ i p. h (at + i) (omega arith) (omega arith)))
 
 -- m with the lowest k bytes of v from `at` on: a store, byte by byte
 unfoldable lowest : ℕ → List ℕ → ℕ → ℕ → List ℕ
@@ -76,22 +60,9 @@ lowest-byte (suc k) m at v i h room =
           ∙ lowest-byte k m at v i l (omega arith)
     ]
 
--- eight digits make up their number
-digits : (v a b c d e f g v0 v1 v2 v3 v4 v5 v6 : ℕ) → v0 + 256 * a ≡ v → v1 + 256 * b ≡ a → v2 + 256 * c ≡ b
-    → v3 + 256 * d ≡ c → v4 + 256 * e ≡ d → v5 + 256 * f ≡ e → v6 + 256 * g ≡ f
-    → v0 + 256 * (v1 + 256 * (v2 + 256 * (v3 + 256 * (v4 + 256 * (v5 + 256 * (v6 + 256 * g)))))) ≡ v
-digits v a b c d e f g v0 v1 v2 v3 v4 v5 v6 p0 p1 p2 p3 p4 p5 p6 = simp (p6, p5, p4, p3, p2, p1, p0)
-
 -- the word that was stored is there
 pub word-same : (m : List ℕ) (at v : ℕ) → at + 8 ≤ length m → v < 2 ^ 64 → wordAt (storedAt m at v) at ≡ v
-unfolding wordAt
-word-same m at v room h =
-    let b : (i : ℕ) → i < 8 → getD (storedAt m at v) (at + i) 0 ≡ v / 2 ^ (8 * i) % 256 = λ i l. rw stored-lowest (lowest-byte 8 m at v i l room) in
-    let low : getD (storedAt m at v) at 0 ≡ v % 256 = simp (add-zero, div-one) at (b 0 (omega arith)) in
-    let top : v / 2 ^ 56 % 256 ≡ v / 2 ^ 56 = omega arith in
-    simp (low, b 1 (omega arith), b 2 (omega arith), b 3 (omega arith), b 4 (omega arith), b 5 (omega arith), b 6 (omega arith), b 7 (omega arith), top)
-    (digits v (v / 2 ^ 8) (v / 2 ^ 16) (v / 2 ^ 24) (v / 2 ^ 32) (v / 2 ^ 40) (v / 2 ^ 48) (v / 2 ^ 56) _ _ _ _ _ _ _
-    (omega arith) (omega arith) (omega arith) (omega arith) (omega arith) (omega arith) (omega arith))
+word-same m at v room h = rw (stored-lowest, word-bytes) (bytes-made 7 (lowest 8 m at v) at v (λ i p. lowest-byte 8 m at v i (omega arith) room) (omega arith))
 
 -- nothing cleared is nothing changed; one byte more
 pub cleared-none : (m : List ℕ) (at : ℕ) → clearedAt m at 0 ≡ m
@@ -130,22 +101,5 @@ cleared-byte m at (suc k) i room p q =
     ]
 
 -- the word at a place is the first of the part that begins there
-part-byte : (m : List ℕ) (at n i : ℕ) → i < n → getD (take n (drop at m)) i 0 ≡ getD m (at + i) 0
-part-byte m at n i h = rw (getD-take, getD-drop)
-
 pub word-of-part : (m : List ℕ) (at n : ℕ) → 8 ≤ n → wordAt (take n (drop at m)) 0 ≡ wordAt m at
-unfolding wordAt
-word-of-part m at n room =
-    let b : (i : ℕ) → i < n → getD (take n (drop at m)) i 0 ≡ getD m (at + i) 0 = part-byte m at n in
-    let first : getD (take n (drop at m)) 0 0 ≡ getD m at 0 = simp add-zero at (b 0 (omega arith)) in
-    omega (
-      arith,
-      first,
-      b 1 (omega arith),
-      b 2 (omega arith),
-      b 3 (omega arith),
-      b 4 (omega arith),
-      b 5 (omega arith),
-      b 6 (omega arith),
-      b 7 (omega arith),
-    )
+word-of-part m at n room = rw (word-bytes _ 0, word-bytes m) (bytes-agree 7 (take n (drop at m)) m 0 at (λ i p. simp zero-add (getD-take n (drop at m) i 0 (omega arith) ∙ getD-drop at m i 0)))

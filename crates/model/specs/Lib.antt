@@ -6,12 +6,8 @@ pub mod Changes
 pub mod Operations
 pub mod Cache
 pub mod Machine
-pub mod Moments
 pub mod EntryLaws
 pub mod Bytes
 pub mod Invariant
 pub mod Theorems
-pub mod Isolation
-pub mod Worked
 pub mod WalkLaws
-pub mod ForCode

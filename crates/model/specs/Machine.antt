@@ -5,7 +5,7 @@ use mathlib.Core.Path.{_≡_}
 use mathlib.Core.Bool.{true}
 use Prim.Native.Nat.{ℕ, _+_, _*_, _<_, _/_, _%_}
 use Rattle.model.specs.Base.{upd2}
-use Rattle.model.specs.State.{State, put-byte}
+use Rattle.model.specs.State.{State, put-byte, reworded}
 use Rattle.model.specs.Changes.{Choice}
 use Rattle.model.specs.Operations.{Out, refuse, done, create, give, map, unmap, share, unshare, take, destroy, invalidated, set-up}
 use Rattle.model.specs.Cache.{Caches, nothing-kept, grown, forget, Access, writing, Reach}
@@ -68,17 +68,7 @@ call m o = settle m (keeps (m .caches) o) (answer (m .state) o)
 
 -- byte o of frame f becomes x
 unfoldable pub stored : State → (f o x : ℕ) → State
-stored s f o x = record {
-  size = s .size;
-  first = s .first;
-  kind = s .kind;
-  shared = s .shared;
-  count = s .count;
-  exists = s .exists;
-  root = s .root;
-  dirty = s .dirty;
-  word = upd2 (s .word) f (o / 8) (put-byte (o % 8) (s .word f (o / 8)) x);
-}
+stored s f o x = reworded s (upd2 (s .word) f (o / 8) (put-byte (o % 8) (s .word f (o / 8)) x))
 
 unfoldable pub write : Machine → (f o x : ℕ) → Machine
 write m f o x = let s = stored (m .state) f o x in record { state = s; caches = grown s (m .caches) }

@@ -43,6 +43,20 @@ pub record State : Type 0 where
   -- frame, index 0 to 511: a number of 64 bits, lowest byte first
   pub word : ℕ → ℕ → ℕ
 
+-- the ledger of s, with these words in RAM
+abbrev pub reworded : State → (ℕ → ℕ → ℕ) → State
+reworded s w = record {
+  size = s .size;
+  first = s .first;
+  kind = s .kind;
+  shared = s .shared;
+  count = s .count;
+  exists = s .exists;
+  root = s .root;
+  dirty = s .dirty;
+  word = w;
+}
+
 -- "the number of places where it is mapped", and the same of what it is shared with: over all guests
 unfoldable pub total : (ℕ → ℕ) → ℕ
 total c = sum guests (λ h. c (suc h))
@@ -84,6 +98,15 @@ is-page-of (table h n p) g = false
 is-page-of (draining-table h n p) g = false
 is-page-of (page h) g = eqb h g
 is-page-of (draining-page h) g = false
+
+-- it holds a table, in use or draining
+abbrev pub tabled : Kind → Bool
+tabled monitor = false
+tabled free = false
+tabled (table h n p) = true
+tabled (draining-table h n p) = true
+tabled (page h) = false
+tabled (draining-page h) = false
 
 unfoldable pub free-frames : State → ℕ
 free-frames s = sum (s .size) (λ f. cond (is-free (s .kind f)) 1 0)

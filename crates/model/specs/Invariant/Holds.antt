@@ -54,7 +54,7 @@ reached s k c q g w a x = let b = page-found s k c q g (x .2) in (b .0, x .1, b 
 pub step-holds : {m m′ : Machine} → Step m m′ → Holds m → Holds m′
 unfolding call write
 step-holds (calls {m} o ch) h = settled m h (keeps (m .caches) o) (answer (m .state) o) (answer-good (m .state) (h .core) (m .caches) (h .kept) o ch)
-step-holds (stores {m} g f o x e l n b a) h = record { core = core; kept = grown-kept (stored (m .state) f o x) (m .caches) core (stored-kept (m .state) (h .core) g f r o x may (m .caches) (h .kept)) }
+step-holds (stores {m} g f o x e l n b a) h = record { core = core; kept = grown-kept (stored (m .state) f o x) (m .caches) core (stored-kept (m .state) g f r o x may (m .caches) (h .kept)) }
   where
     to : (f r : ℕ) × (((m .state .first + f) * 4096 + o) / 4096 ≡ m .state .first + f) × (grants r writing ≡ true) × (May (m .state) g f r ⊎ (m .state .kind f ≡ draining-page g))
     to = let z = reached (m .state) (m .caches) (h .core) (h .kept) g writing ((m .state .first + f) * 4096 + o) a in
@@ -69,7 +69,7 @@ step-holds (stores {m} g f o x e l n b a) h = record { core = core; kept = grown
     may = to .4
 
     core : Core (stored (m .state) f o x)
-    core = stored-core (m .state) (h .core) g f r o x may
+    core = stored-core (m .state) g f r o x may (h .core)
 
 pub run-holds : {m z : Machine} → Run m z → Holds m → Holds z
 run-holds stop h = h

@@ -4,56 +4,32 @@ use mathlib.Core.Bool.{true, _&&_}
 use mathlib.Core.List.{List, [], _∷_}
 use Prim.Native.Nat.{ℕ, zero, suc, _+_, _*_, _≤_, _<_, _/_, _%_, _^_}
 use native.Mathlib.Omega.{arith}
-use native.Mathlib.Nat.{add-assoc, add-zero}
+use native.Mathlib.Nat.{div-one}
 use lib.ListN.{length, getD}
 use lib.Dec.{eqb, ltb, leb}
 use borrow.Author.Tests.{eqb-true}
 use Rattle.memory.specs.Word.{wordAt}
+use Rattle.memory.specs.Bytes.{word-bytes, byte-above, bytes-made, bytes-there}
 use Rattle.model.specs.Base.{and-true}
 use Rattle.model.specs.State.{State, byte-of, byte}
 use Rattle.model.specs.Operations.{done, started, set-up}
 use Rattle.model.specs.Bytes.{Image}
 use Rattle.model.specs.Invariant.Answer.{Then, then-done, then-is, checked}
-use Rattle.model.specs.Invariant.Wide.{Wide, room}
+use Rattle.model.specs.Invariant.Wide.{Wide}
 
--- the lowest byte of a number, and the others
-byte-first : (d x : ℕ) → d < 256 → byte-of 0 (d + 256 * x) ≡ d
+-- byte k of a word, by one division
+byte-is : (k w : ℕ) → byte-of k w ≡ w / 2 ^ (8 * k) % 256
 unfolding byte-of
-byte-first d x l = omega arith
-
-byte-next : (k d x : ℕ) → d < 256 → byte-of (suc k) (d + 256 * x) ≡ byte-of k x
-unfolding byte-of
-byte-next k d x l = let z : (d + 256 * x) / 256 ≡ x = omega arith in rw z
-
--- the number of n + 1 bytes from `at` on, lowest first
-unfoldable bytes-from : (n : ℕ) → List ℕ → ℕ → ℕ
-bytes-from zero m at = getD m at 0
-bytes-from (suc n) m at = getD m at 0 + 256 * bytes-from n m (at + 1)
-
-module _ (m : List ℕ) (h : (i : ℕ) → getD m i 0 < 256) where
-  byte-from : (n at k : ℕ) → k ≤ n → byte-of k (bytes-from n m at) ≡ getD m (at + k) 0
-  unfolding bytes-from
-  byte-from zero at zero l = let z = h at in last z ∙ ap (λ (i : ℕ). getD m i 0) (omega arith)
-    where
-      last : getD m at 0 < 256 → byte-of 0 (getD m at 0) ≡ getD m at 0
-      last z = unfold byte-of in omega arith
-  byte-from zero at (suc k) l = absurd (omega arith)
-  byte-from (suc n) at zero l = byte-first (getD m at 0) (bytes-from n m (at + 1)) (h at) ∙ ap (λ (i : ℕ). getD m i 0) (omega arith)
-  byte-from (suc n) at (suc k) l =
-      byte-next k (getD m at 0) (bytes-from n m (at + 1)) (h at) ∙ byte-from n (at + 1) k (omega arith) ∙ ap (λ (i : ℕ). getD m i 0) (omega arith)
-
--- a word is the number of eight bytes
-word-bytes : (m : List ℕ) (at : ℕ) → wordAt m at ≡ bytes-from 7 m at
-unfolding wordAt bytes-from
-word-bytes m at = simp add-assoc
+byte-is zero w = simp div-one
+byte-is (suc k) w = rw byte-above (byte-is k (w / 256))
 
 module _ {s : State} {b : ℕ} {m : List ℕ} (x : Image s b m) (h : (i : ℕ) → getD m i 0 < 256) where
   pub byte-there : (f o : ℕ) → f < s .size → o < 4096 → byte s f o ≡ getD m (4096 * f + o) 0
   unfolding byte
   byte-there f o l k =
       let at : 4096 * f + 8 * (o / 8) + o % 8 ≡ 4096 * f + o = omega arith in
-      ap (byte-of (o % 8)) (x .words f (o / 8) l (omega arith) ∙ word-bytes m (4096 * f + 8 * (o / 8)))
-      ∙ byte-from m h 7 (4096 * f + 8 * (o / 8)) (o % 8) (omega arith) ∙ ap (λ (i : ℕ). getD m i 0) at
+      byte-is (o % 8) (s .word f (o / 8)) ∙ ap (λ (w : ℕ). w / 2 ^ (8 * (o % 8)) % 256) (x .words f (o / 8) l (omega arith) ∙ word-bytes m (4096 * f + 8 * (o / 8)))
+      ∙ bytes-there m h 7 (4096 * f + 8 * (o / 8)) (o % 8) (omega arith) ∙ ap (λ (i : ℕ). getD m i 0) at
 
 -- set-up on any bytes
 module _ (n b k : ℕ) (m : List ℕ) (long : length m ≡ 4096 * n) where
@@ -96,20 +72,6 @@ numbers-low f h a zero i = omega arith
 numbers-low f h a (suc n) zero = h a
 numbers-low f h a (suc n) (suc i) = numbers-low f h (suc a) n i
 
-from-bytes : (m : List ℕ) (n w at : ℕ) → ((k : ℕ) → k ≤ n → getD m (at + k) 0 ≡ byte-of k w) → w < room (suc n) → bytes-from n m at ≡ w
-unfolding bytes-from room byte-of
-from-bytes m zero w at h l = let z = ap (λ (i : ℕ). getD m i 0) (add-zero at) in let y = h 0 (omega arith) in omega arith
-from-bytes m (suc n) w at h l =
-    let z = ap (λ (i : ℕ). getD m i 0) (add-zero at) in
-    let y = h 0 (omega arith) in
-    let above = from-bytes m n (w / 256) (at + 1) (λ k j. ap (λ (i : ℕ). getD m i 0) (omega arith) ∙ h (suc k) (omega arith)) (omega arith) in
-    omega arith
-
-byte-low : (k w : ℕ) → byte-of k w < 256
-unfolding byte-of
-byte-low zero w = omega arith
-byte-low (suc k) w = byte-low k (w / 256)
-
 module _ (s : State) where
   abbrev pub bytes-of : List ℕ
   bytes-of = numbers-from (λ j. byte s (j / 4096) (j % 4096)) 0 (4096 * s .size)
@@ -127,12 +89,12 @@ module _ (s : State) where
   image-of h = record {
     base = refl;
     long = numbers-length (λ j. byte s (j / 4096) (j % 4096)) 0 (4096 * s .size);
-    words = λ f i lf li. sym (word-bytes bytes-of (4096 * f + 8 * i) ∙ from-bytes bytes-of 7 (s .word f i) (4096 * f + 8 * i) (λ k lk. bytes-at f i k lf li (omega arith)) (small (s .word f i) (h f i)));
+    words = λ f i lf li. sym (word-bytes bytes-of (4096 * f + 8 * i) ∙ bytes-made 7 bytes-of (4096 * f + 8 * i) (s .word f i) (λ k lk. bytes-at f i k lf li (omega arith) ∙ byte-is k (s .word f i)) (top (s .word f i) (h f i)));
   }
     where
-      small : (w : ℕ) → w < 2 ^ 64 → w < room 8
-      small w l = unfold room in l
+      top : (w : ℕ) → w < 2 ^ 64 → w / 2 ^ 56 < 256
+      top w l = omega arith
 
   pub bytes-low : (i : ℕ) → getD bytes-of i 0 < 256
   unfolding byte
-  bytes-low i = numbers-low (λ j. byte s (j / 4096) (j % 4096)) (λ j. byte-low (j % 4096 % 8) (s .word (j / 4096) (j % 4096 / 8))) 0 (4096 * s .size) i
+  bytes-low i = numbers-low (λ j. byte s (j / 4096) (j % 4096)) (λ j. rw byte-is (omega arith)) 0 (4096 * s .size) i

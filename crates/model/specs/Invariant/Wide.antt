@@ -51,7 +51,7 @@ unfolding page-entry
 page-wide first f r l = omega arith
 
 -- the numbers of n bytes
-unfoldable pub room : ℕ → ℕ
+unfoldable room : ℕ → ℕ
 room zero = 1
 room (suc n) = 256 * room n
 

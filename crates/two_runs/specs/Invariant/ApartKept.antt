@@ -1,0 +1,310 @@
+-- What a processor that has kept all it can find keeps after a step: what was kept, and what the tables say now. Nothing else, also where tables drain.
+use mathlib.Core.Path.{_≡_, refl, sym, ap, _∙_}
+use mathlib.Core.Bool.{Bool, true, false, cond}
+use mathlib.Core.Logic.{_⊎_, inl, inr}
+use mathlib.Core.Option.{none, some}
+use Prim.Native.Nat.{ℕ, zero, suc, _+_, _*_, _<_, _/_, _%_}
+use native.Mathlib.Omega.{arith}
+use native.Mathlib.Nat.{div-add-mod'}
+use lib.Dec.{eqb}
+use borrow.Author.Tests.{leb-true, eqb-false, eq-eqb, ne-eqb}
+use Rattle.model.specs.Base.{upd, upd2}
+use Rattle.model.specs.State.{State, Kind, free, table, draining-table, page, draining-page, free-frames, pages}
+use Rattle.model.specs.Entry.{Entry, empty, to-table, to-page, other, entry}
+use Rattle.model.specs.EntryLaws.{is-table, is-to-page, page-low, descriptor-table, descriptor-page}
+use Rattle.model.specs.Translate.{upper, index, entry-at, into, descend, translate, missing}
+use Rattle.model.specs.Changes.{Choice, zeros, becomes, with-root, with-page, with-mapping, without-page, drained, without-guest, released, clean}
+use Rattle.model.specs.Operations.{Out, refuse, done, create, give, map, unmap, share, unshare, take, destroy, invalidated}
+use Rattle.model.specs.Cache.{Caches, nothing-kept, Table, from-root, from-word, Translation, kept, read-off, descriptor, next, output, inside, forget}
+use Rattle.model.specs.Machine.{Machine, Operation, Create, Give, Take, Map, Unmap, Share, Unshare, Destroy, Invalidated, answer, Chooses, keeps, Run, SetUp}
+use Rattle.model.specs.Invariant.Kinds.{sort, clash, kind-from}
+use Rattle.model.specs.Invariant.Core.{Core, Kept, low, in-room}
+use Rattle.model.specs.Invariant.Way.{root-serves, step-kind, leaf-kind, leaf-from, leaf-there, translate-from, translate-at}
+use Rattle.model.specs.Invariant.Pages.{may-room}
+use Rattle.model.specs.Invariant.Found.{out-fits, out-stale, table-found}
+use Rattle.model.specs.Invariant.Destroy.{Was, stays, was-table, was-page, was}
+use Rattle.model.specs.Invariant.Invalidated.{released-from}
+use Rattle.model.specs.Invariant.MapUnmap.{address-low, some-is, grown-for, without-is}
+use Rattle.model.specs.Invariant.Answer.{Then, then-refuse, then-done, then-is, checked, Sound}
+use Rattle.model.specs.Invariant.Holds.{Holds, holds, answer-good, nothing-ok}
+use Rattle.model.specs.Invariant.Orderly.{Orderly, orderly}
+use Rattle.model.specs.Invariant.Linked.{Linked, comes-there}
+use Rattle.model.specs.Invariant.Hung.{hung}
+use Rattle.two_runs.specs.Invariant.Alike.{Closed}
+
+-- what the tables say, the processor finds
+module _ (s : State) (c : Core s) (k : Caches) (g v : ℕ) where
+  way-down : (h t : ℕ) → s .kind t ≡ table g h (upper (suc h) v) → Table s k g h (upper (suc h) v) (s .first + t) → (u : ℕ) → descend s h t v ≡ some u → Table s k g 0 (upper 1 v) (s .first + u)
+  unfolding descend
+  way-down zero t a x u e = let z : t ≡ u = cc in rw z at x
+  way-down (suc h) t a x u e = go (way-down h) (entry-at s t i) refl e
+    where
+      i : ℕ
+      i = index (suc h) v
+
+      down : (t′ : ℕ) → entry-at s t i ≡ to-table t′ → s .kind t′ ≡ table g h (upper (suc h) v) → Table s k g h (upper (suc h) v) (s .first + t′)
+      down t′ q b = unfold upper in
+          let room = in-room s c t′ (table g h (upper (suc h) v)) b refl in
+          let d : descriptor (suc h) (s .word t i) ≡ next (s .first + t′) = ap (descriptor (suc h)) (is-table (s .first) (s .word t i) t′ q) ∙ descriptor-table (s .first) t′ room h in
+          let w = from-word x t i refl (low s c t (table g (suc h) (upper (suc (suc h)) v)) a refl) (omega arith) d in
+          rw (div-add-mod' (upper h v / 512) 512) at w
+
+      go : ((t : ℕ) → s .kind t ≡ table g h (upper (suc h) v) → Table s k g h (upper (suc h) v) (s .first + t) → (u : ℕ) → descend s h t v ≡ some u → Table s k g 0 (upper 1 v) (s .first + u)) →
+          (y : Entry) → entry-at s t i ≡ y → into y none (λ t′. descend s h t′ v) ≡ some u → Table s k g 0 (upper 1 v) (s .first + u)
+      go ih empty q e = let z : _≡_ {A = ℕ} 0 1 = cc in absurd (omega arith)
+      go ih (to-table t′) q e = let b = step-kind s c g h t v t′ a q in ih t′ b (down t′ q b) u e
+      go ih (to-page f r) q e = let z : _≡_ {A = ℕ} 0 1 = cc in absurd (omega arith)
+      go ih (other y) q e = let z : _≡_ {A = ℕ} 0 1 = cc in absurd (omega arith)
+
+  root-table : s .exists g ≡ true → v < pages → Table s k g 3 (upper 4 v) (s .first + s .root g)
+  unfolding upper
+  root-table e l = let z : v / 512 / 512 / 512 / 512 ≡ 0 = omega arith in rw z (from-root e refl)
+
+  pub translates : (f r : ℕ) → v < pages → translate s g v ≡ some (f, r) → Translation s k g v (s .first + f) r
+  unfolding upper inside
+  translates f r l e =
+      let w = translate-from s g v f r e in
+      let t = w .0 in
+      let lf = leaf-from s c g v t (w .1) in
+      let kt = leaf-kind s c g v t l (w .1) in
+      let m = rw (w .2) at (c .tables t g 0 (v / 512) kt (v % 512) (omega arith)) in
+      let d : descriptor 0 (s .word t (v % 512)) ≡ output (s .first + f) r =
+      ap (descriptor 0) (is-to-page (s .first) (s .word t (v % 512)) f r (w .2)) ∙ descriptor-page (s .first) f r (may-room s c g f r m) (page-low (s .first) (s .word t (v % 512)) f r (w .2)) in
+      let x = way-down 3 (s .root g) (root-serves (s .kind (s .root g)) g v (c .roots g (lf .0)) l) (root-table (lf .0) l) t (lf .1) in
+      read-off 0 (s .first + t) t (s .first + f) x refl (low s c t (table g 0 (v / 512)) kt refl) d refl
+
+-- tables serve pages below 2^36
+module _ (s : State) (c : Core s) (l : Linked s) where
+  abbrev Below : (d p : ℕ) → Type 0
+  Below zero p = p ≡ 0
+  Below (suc d) p = Below d (p / 512)
+
+  below : (d h t g p : ℕ) → h + d ≡ 3 → s .kind t ≡ table g h p → Below d p
+  below zero h t g p e k = elim (l .hangs t g h p k) [
+    | inl x ↦ let r = c .roots g (c .table-exists t g h p k) in let x1 = x .1 in cc
+    | inr x ↦ let z = x .3 in absurd (omega arith)
+  ]
+  below (suc d) h t g p e k = elim (l .hangs t g h p k) [
+    | inl x ↦ let z = x .0 in absurd (omega arith)
+    | inr x ↦ below d (suc h) (x .0) g (p / 512) (omega arith) (x .1)
+  ]
+
+  pub last-low : (t g v : ℕ) → s .kind t ≡ table g 0 (v / 512) → v < pages
+  last-low t g v k = let z : v / 512 / 512 / 512 / 512 ≡ 0 = below 3 0 t g (v / 512) (omega arith) k in omega arith
+
+  -- an entry of a last table is what its page translates to
+  pub entry-translates : (t g v f r : ℕ) → s .kind t ≡ table g 0 (v / 512) → entry-at s t (v % 512) ≡ to-page f r → translate s g v ≡ some (f, r)
+  entry-translates t g v f r k e = translate-at s g v t f r (leaf-there s c g v (c .table-exists t g 0 (v / 512) k) ∙ comes-there s c l g v t k) e
+
+-- only destroy makes tables drain, and what drains keeps its words; a report for g leaves no table that drains for g
+abbrev pub reported : (g : ℕ) → Operation → Bool
+reported g (Create h pick) = false
+reported g (Give f h) = false
+reported g (Take f h) = false
+reported g (Map f h a r pick) = false
+reported g (Unmap h a) = false
+reported g (Share o f h w) = false
+reported g (Unshare o f h) = false
+reported g (Destroy h) = false
+reported g (Invalidated h) = eqb h g
+
+-- such a table was there before
+pub record Was-there (g : ℕ) (s : State) (o : Operation) (s′ : State) : Type 0 where
+  pub table-there : (t h p : ℕ) → s′ .kind t ≡ draining-table g h p → (s .kind t ≡ draining-table g h p) ⊎ (s .kind t ≡ table g h p)
+  pub words : (t h p : ℕ) → s′ .kind t ≡ draining-table g h p → (i : ℕ) → s′ .word t i ≡ s .word t i
+  pub no-report : (t h p : ℕ) → s′ .kind t ≡ draining-table g h p → reported g o ≡ false
+
+module _ (g : ℕ) (s : State) (c : Core s) where
+  -- where no table begins to drain
+  drains-as-before : (o : Operation) (s′ : State) → Orderly s s′ → reported g o ≡ false → ((t h p : ℕ) → s′ .kind t ≡ draining-table g h p → s .kind t ≡ draining-table g h p) → Was-there g s o s′
+  drains-as-before o s′ x n d = record {
+    table-there = λ t h p a. inl (d t h p a);
+    words = λ t h p a. x .words t (draining-table g h p) (d t h p a) refl refl;
+    no-report = λ t h p a. n;
+  }
+
+  abbrev Kinds-from : State → Type 0
+  Kinds-from s′ = (t h p : ℕ) → s′ .kind t ≡ draining-table g h p → s .kind t ≡ draining-table g h p
+
+  becomes-from : (f : ℕ) (y : Kind) (w sh : ℕ → ℕ → ℕ) → eqb (sort y) 3 ≡ false → Kinds-from (becomes s f y w sh)
+  unfolding becomes
+  becomes-from f y w sh n t h p a = kind-from (s .kind) f y t (draining-table g h p) a n
+
+  taken-from : (f h : ℕ) (b : Bool) → Kinds-from (becomes s f (cond b (draining-page h) free) (s .word) (s .shared))
+  taken-from f h true = becomes-from f (draining-page h) (s .word) (s .shared) refl
+  taken-from f h false = becomes-from f free (s .word) (s .shared) refl
+
+  map-from : (f h a r : ℕ) (pick : ℕ → ℕ) → Choice s pick → Then Kinds-from (map s f h a r pick)
+  unfolding map with-mapping with-page
+  map-from f h a r pick ch =
+      checked 5 λ e1. checked 14 λ e2. checked 7 λ e3. checked 8 λ e4. checked 4 λ e5. checked 9 λ e6. checked 10 λ e7. checked 3 λ e8.
+      let z = grown-for s c nothing-kept (nothing-ok s) h (a / 4096) pick e1 (address-low a e3) ch (leb-true (missing s h (a / 4096)) (free-frames s) e8) in
+      then-done (λ t n p b. elim (z .from t (draining-table g n p) b) [ inl x ↦ x | inr x ↦ let x1 = x .1 in absurd (no-bool x1) ])
+    where
+      no-bool : false ≡ true → ⊥
+      no-bool e = let z : _≡_ {A = ℕ} 0 1 = cc in omega arith
+
+  unmap-from : (h a : ℕ) → Then Kinds-from (unmap s h a)
+  unfolding unmap without-page
+  unmap-from h a =
+      checked 5 λ e1. checked 7 λ e2. checked 11 λ e3.
+      let o = some-is (translate s h (a / 4096)) e3 in
+      let w = translate-from s h (a / 4096) (o .0) (o .1) (o .2) in
+      rw (without-is s c h (a / 4096) (w .0) (o .0) (o .1) (w .1) (o .2)) (then-done (λ t n p b. b))
+
+  create-from : (h : ℕ) (pick : ℕ → ℕ) → Then Kinds-from (create s h pick)
+  unfolding create with-root
+  create-from h pick = checked 1 λ e1. checked 2 λ e2. checked 3 λ e3. then-done (λ t n p a. kind-from (s .kind) (pick 0) (table h 3 0) t (draining-table g n p) a refl)
+
+  give-from : (f h : ℕ) → Then Kinds-from (give s f h)
+  unfolding give
+  give-from f h = checked 5 λ e1. checked 4 λ e2. checked 6 λ e3. then-done (becomes-from f (page h) (upd (s .word) f zeros) (upd (s .shared) f zeros) refl)
+
+  take-from : (f h : ℕ) → Then Kinds-from (take s f h)
+  unfolding take
+  take-from f h = checked 5 λ e1. checked 4 λ e2. checked 9 λ e3. checked 13 λ e4. then-done (taken-from f h (s .dirty h))
+
+  share-from : (o f h w : ℕ) → Then Kinds-from (share s o f h w)
+  unfolding share
+  share-from o f h w = checked 5 λ e1. checked 12 λ e2. checked 4 λ e3. checked 9 λ e4. checked 13 λ e5. checked 14 λ e6.
+      then-done (becomes-from f (page o) (s .word) (upd2 (s .shared) f h (cond (eqb w 0) 1 2)) refl)
+
+  unshare-from : (o f h : ℕ) → Then Kinds-from (unshare s o f h)
+  unfolding unshare
+  unshare-from o f h = checked 5 λ e1. checked 4 λ e2. checked 9 λ e3. checked 13 λ e4. checked 14 λ e5. then-done (becomes-from f (page o) (s .word) (upd2 (s .shared) f h 0) refl)
+
+  destroy-there : (h : ℕ) → Then (Was-there g s (Destroy h)) (destroy s h)
+  unfolding destroy without-guest
+  destroy-there h = checked 5 λ e1. checked 13 λ e2. then-done (record {
+    table-there = λ t n p a. before t n p a (was h (s .kind t));
+    words = λ t n p a i. refl;
+    no-report = λ t n p a. refl;
+  })
+    where
+      before : (t n p : ℕ) → drained h (s .kind t) ≡ draining-table g n p → Was h (s .kind t) → (s .kind t ≡ draining-table g n p) ⊎ (s .kind t ≡ table g n p)
+      before t n p a (stays b d e) = inl (sym b ∙ a)
+      before t n p a (was-table n′ p′ b d) = inr (cc)
+      before t n p a (was-page b d) = absurd (clash {x = draining-page h} {y = draining-table g n p} (sym d ∙ a) refl)
+
+  invalidated-there : (h : ℕ) → Then (Was-there g s (Invalidated h)) (invalidated s h)
+  unfolding invalidated clean
+  invalidated-there h = checked 1 λ e1. then-done (record {
+    table-there = λ t n p a. inl (released-from h (s .kind t) (draining-table g n p) a refl);
+    words = λ t n p a i. refl;
+    no-report = λ t n p a. ne-eqb h g (λ (e : h ≡ g). mine t n p a (released-from h (s .kind t) (draining-table g n p) a refl) e);
+  })
+    where
+      mine : (t n p : ℕ) → released h (s .kind t) ≡ draining-table g n p → s .kind t ≡ draining-table g n p → h ≡ g → ⊥
+      mine t n p a b e = clash {x = free} {y = draining-table g n p} (unfold released in (rw (b, eq-eqb g h (sym e)) at a)) refl
+
+  there : (o : Operation) → Chooses s o → Then Kinds-from (answer s o) → reported g o ≡ false → Then (Was-there g s o) (answer s o)
+  there o ch x n = both (answer s o) (orderly s c o ch) x
+    where
+      both : (y : Out) → Then (Orderly s) y → Then Kinds-from y → Then (Was-there g s o) y
+      both (refuse k) a b = then-refuse
+      both (done s′) (then-done a) (then-done b) = then-done (drains-as-before o s′ a n b)
+
+  pub answer-there : (o : Operation) → Chooses s o → Then (Was-there g s o) (answer s o)
+  answer-there (Create h pick) ch = there (Create h pick) ch (unfold answer in create-from h pick) refl
+  answer-there (Give f h) ch = there (Give f h) ch (unfold answer in give-from f h) refl
+  answer-there (Take f h) ch = there (Take f h) ch (unfold answer in take-from f h) refl
+  answer-there (Map f h a r pick) ch = there (Map f h a r pick) ch (unfold answer in map-from f h a r pick ch) refl
+  answer-there (Unmap h a) ch = there (Unmap h a) ch (unfold answer in unmap-from h a) refl
+  answer-there (Share o f h w) ch = there (Share o f h w) ch (unfold answer in share-from o f h w) refl
+  answer-there (Unshare o f h) ch = there (Unshare o f h) ch (unfold answer in unshare-from o f h) refl
+  answer-there (Destroy h) ch = unfold answer in destroy-there h
+  answer-there (Invalidated h) ch = unfold answer in invalidated-there h
+
+-- what stands in a last table that drains has been kept
+pub record Recalls (s : State) (k : Caches) : Type 0 where
+  pub drained-entry : (t g v f r : ℕ) → s .kind t ≡ draining-table g 0 (v / 512) → entry-at s t (v % 512) ≡ to-page f r → k .page-kept g v (s .first + f) r
+
+-- a machine after any run from set-up
+pub record Sane (m : Machine) : Type 1 where
+  pub start : Machine
+  pub set-up : SetUp start
+  pub run : Run start m
+  pub closed : Closed (m .state) (m .caches)
+  pub recalls : Recalls (m .state) (m .caches)
+
+pub sane-holds : {m : Machine} → Sane m → Holds m
+sane-holds x = holds (x .set-up) (x .run)
+
+pub sane-linked : {m : Machine} → Sane m → Linked (m .state)
+sane-linked x = hung (x .set-up) (x .run)
+
+pub keeps-more : (k : Caches) (o : Operation) (g v x r : ℕ) → reported g o ≡ false → k .page-kept g v x r → keeps k o .page-kept g v x r
+unfolding keeps forget
+keeps-more k (Create h pick) g v x r e a = a
+keeps-more k (Give f h) g v x r e a = a
+keeps-more k (Take f h) g v x r e a = a
+keeps-more k (Map f h b q pick) g v x r e a = a
+keeps-more k (Unmap h b) g v x r e a = a
+keeps-more k (Share o f h w) g v x r e a = a
+keeps-more k (Unshare o f h) g v x r e a = a
+keeps-more k (Destroy h) g v x r e a = a
+keeps-more k (Invalidated h) g v x r e a = (λ (p : g ≡ h). eqb-false h g e (sym p), a)
+
+module _ {m : Machine} (x : Sane m) where
+  -- what the tables say now has been kept
+  pub now-kept : (g v f r : ℕ) → v < pages → translate (m .state) g v ≡ some (f, r) → m .caches .page-kept g v (m .state .first + f) r
+  now-kept g v f r l e = x .closed .pages g v (m .state .first + f) r (translates (m .state) (sane-holds x .core) (m .caches) g v f r l e)
+
+  -- and so has what stands in any last table
+  entry-kept : (t g v f r : ℕ) → (m .state .kind t ≡ draining-table g 0 (v / 512)) ⊎ (m .state .kind t ≡ table g 0 (v / 512)) → entry-at (m .state) t (v % 512) ≡ to-page f r → m .caches .page-kept g v (m .state .first + f) r
+  entry-kept t g v f r (inl k) e = x .recalls .drained-entry t g v f r k e
+  entry-kept t g v f r (inr k) e =
+      let c = sane-holds x .core in
+      let l = sane-linked x in
+      now-kept g v f r (last-low (m .state) c l t g v k) (entry-translates (m .state) c l t g v f r k e)
+
+  module _ (o : Operation) (ch : Chooses (m .state) o) (s′ : State) (e : answer (m .state) o ≡ done s′) where
+    pub same-first : s′ .first ≡ m .state .first
+    same-first = then-is (answer (m .state) o) s′ (orderly (m .state) (sane-holds x .core) o ch) e .first
+
+    pub sound : Sound (keeps (m .caches) o) s′
+    sound = then-is (answer (m .state) o) s′ (answer-good (m .state) (sane-holds x .core) (m .caches) (sane-holds x .kept) o ch) e
+
+    pub stale-kept : (t g v f r : ℕ) → s′ .kind t ≡ draining-table g 0 (v / 512) → entry-at s′ t (v % 512) ≡ to-page f r → keeps (m .caches) o .page-kept g v (s′ .first + f) r
+    stale-kept t g v f r k n =
+        let w = then-is (answer (m .state) o) s′ (answer-there g (m .state) (sane-holds x .core) o ch) e in
+        let f= = same-first in
+        let same : entry-at s′ t (v % 512) ≡ entry-at (m .state) t (v % 512) = ap (λ (z : ℕ). entry z (s′ .word t (v % 512))) f= ∙ ap (entry (m .state .first)) (w .words t 0 (v / 512) k (v % 512)) in
+        rw f= (keeps-more (m .caches) o g v (m .state .first + f) r (w .no-report t 0 (v / 512) k) (entry-kept t g v f r (w .table-there t 0 (v / 512) k) (sym same ∙ n)))
+
+-- what is found was kept, or the tables say it now
+module _ (s : State) (k : Caches) (c : Core s) (q : Kept s k) (l : Linked s) (g : ℕ)
+    (stale : (t v f r : ℕ) → s .kind t ≡ draining-table g 0 (v / 512) → entry-at s t (v % 512) ≡ to-page f r → k .page-kept g v (s .first + f) r) where
+  abbrev Kept-or-now : (v f r : ℕ) → Type 0
+  Kept-or-now v f r = k .page-kept g v (s .first + f) r ⊎ ((v < pages) × (translate s g v ≡ some (f, r)))
+
+  pub found-is : {v x r : ℕ} → Translation s k g v x r → (f : ℕ) → x ≡ s .first + f → Kept-or-now v f r
+  found-is {v} {x} {r} (kept a) f e = inl (rw e at a)
+  found-is {v} (read-off {x} {r} h y t p a e n d o) f x= = go (table-found s k c q g a)
+    where
+      same : (h f′ : ℕ) → h ≡ 0 → p ≡ s .first + f′ → x ≡ inside h p v → f′ ≡ f
+      same zero f′ z p= o = let o′ : x ≡ p = unfold inside in o in omega arith
+      same (suc h) f′ z p= o = absurd (omega arith)
+
+      live : (h f′ : ℕ) → h ≡ 0 → f′ ≡ f → s .kind t ≡ table g h (upper (suc h) v) → entry-at s t (index h v) ≡ to-page f′ r → Kept-or-now v f r
+      live zero f′ z f= b n = unfold upper in inr (last-low s c l t g v b, entry-translates s c l t g v f r b (n ∙ ap (λ (i : ℕ). to-page i r) f=))
+      live (suc h) f′ z f= b n = absurd (omega arith)
+
+      gone : (h f′ : ℕ) → h ≡ 0 → f′ ≡ f → s .kind t ≡ draining-table g h (upper (suc h) v) → entry-at s t (index h v) ≡ to-page f′ r → Kept-or-now v f r
+      gone zero f′ z f= b n = unfold upper in inl (stale t v f r b (n ∙ ap (λ (i : ℕ). to-page i r) f=))
+      gone (suc h) f′ z f= b n = absurd (omega arith)
+
+      go : (t′ : ℕ) × (y ≡ s .first + t′) × ((s .kind t′ ≡ table g h (upper (suc h) v)) ⊎ (s .kind t′ ≡ draining-table g h (upper (suc h) v))) → Kept-or-now v f r
+      go b =
+          let b1 = b .1 in
+          let t= : b .0 ≡ t = omega arith in
+          elim (rw t= at (b .2)) [
+            | inl z ↦
+                let n = out-fits s c g h (upper (suc h) v * 512 + index h v) (s .word t (index h v)) p r (c .tables t g h (upper (suc h) v) z (index h v) (omega arith)) d in
+                let n1 = n .1 in
+                live h (n1 .0) (n .0) (same h (n1 .0) (n .0) (n1 .1) o) z (n1 .2)
+            | inr z ↦
+                let n = out-stale s c g h (upper (suc h) v * 512 + index h v) (s .word t (index h v)) p r (c .draining t g h (upper (suc h) v) z (index h v) (omega arith)) d in
+                let n1 = n .1 in
+                gone h (n1 .0) (n .0) (same h (n1 .0) (n .0) (n1 .1) o) z (n1 .2)
+          ]
