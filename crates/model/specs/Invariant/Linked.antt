@@ -7,12 +7,12 @@ use Prim.Native.Nat.{ℕ, zero, suc, _+_, _*_, _≤_, _<_, _/_, _%_}
 use native.Mathlib.Omega.{arith}
 use native.Mathlib.Nat.{div-add-mod'}
 use lib.Dec.{eqb, ltb}
-use borrow.Author.Tests.{leb-true}
+use borrow.Author.Tests.{leb-true, ne-eqb}
 use Rattle.model.specs.Base.{eq?, and-true, not-true, upd, upd-same, upd-at, upd-other, upd2, upd2-other}
 use Rattle.model.specs.State.{State, Kind, free, table, page, draining-page, is-page-of, free-frames, put-byte}
 use Rattle.model.specs.Entry.{Entry, empty, to-table, to-page, other, entry, page-entry}
 use Rattle.model.specs.Translate.{upper, index, entry-at, into, descend, missing-from, translate, missing}
-use Rattle.model.specs.Changes.{Choice, zeros, becomes, with-root, with-table, Grown, grow, with-page, with-mapping, without-page, without-guest, clean}
+use Rattle.model.specs.Changes.{Choice, zeros, becomes, with-root, with-table, Grown, grow, with-page, with-mapping, without-page, drained, without-guest, released, clean}
 use Rattle.model.specs.Operations.{done, create, give, map, unmap, share, unshare, take, destroy, invalidated}
 use Rattle.model.specs.Cache.{nothing-kept}
 use Rattle.model.specs.Machine.{Operation, Create, Give, Take, Map, Unmap, Share, Unshare, Destroy, Invalidated, answer, Chooses, stored}
@@ -24,8 +24,8 @@ use Rattle.model.specs.Invariant.Choice.{first-free, fewer, rest-chosen}
 use Rattle.model.specs.Invariant.Create.{root-word}
 use Rattle.model.specs.Invariant.Grow.{zero-missing}
 use Rattle.model.specs.Invariant.MapUnmap.{address-low, some-is, grown-for, without-is}
-use Rattle.model.specs.Invariant.Destroy.{drained-other, from-table}
-use Rattle.model.specs.Invariant.Invalidated.{keep-table, released-from}
+use Rattle.model.specs.Invariant.Destroy.{from-table}
+use Rattle.model.specs.Invariant.Invalidated.{released-from}
 use Rattle.model.specs.Invariant.Answer.{Then, then-done, checked}
 use Rattle.model.specs.Invariant.Holds.{nothing-ok}
 
@@ -87,15 +87,15 @@ module _ (s : State) (l : Linked s) where
   }
 
   destroyed-linked : (g : ℕ) → Linked (without-guest s g)
-  unfolding without-guest
+  unfolding without-guest drained
   destroyed-linked g = linked-same s (without-guest s g) l
-      (λ t h n p k. let b = from-table g (s .kind t) h n p k in (b .0, refl, λ u m q a. drained-other g (s .kind u) h m q (b .1) a))
+      (λ t h n p k. let b = from-table g (s .kind t) h n p k in (b .0, refl, λ u m q a. rw (a, ne-eqb h g (b .1))))
       (λ u h n q i t a b. b)
 
   clean-linked : (g : ℕ) → Linked (clean s g)
-  unfolding clean
+  unfolding clean released
   clean-linked g = linked-same s (clean s g) l
-      (λ t h n p k. (released-from g (s .kind t) (table h n p) k refl, refl, λ u m q a. keep-table g (s .kind u) h m q a))
+      (λ t h n p k. (released-from g (s .kind t) (table h n p) k refl, refl, λ u m q a. rw a))
       (λ u h n q i t a b. b)
 
   -- a guest's store, to a frame that is no table

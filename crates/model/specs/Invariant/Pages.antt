@@ -4,7 +4,7 @@ use mathlib.Core.Bool.{true≢false, true, false}
 use mathlib.Core.Logic.{inl, inr}
 use Prim.Native.Nat.{ℕ, suc, pred, _+_, _*_, _<_, _%_}
 use native.Mathlib.Omega.{arith}
-use Rattle.model.specs.Base.{eq?, upd, upd-at, upd-other, upd2, upd2-same, upd2-at, upd2-other}
+use Rattle.model.specs.Base.{eq?, upd-not, upd2, upd2-same, upd2-at, upd2-other}
 use Rattle.model.specs.State.{State, table, draining-table, page, pages}
 use Rattle.model.specs.Entry.{Entry, empty, to-page, entry, page-entry}
 use Rattle.model.specs.EntryLaws.{entry-empty, entry-page}
@@ -152,21 +152,16 @@ module _ (s : State) (c : Core s) (t g p i : ℕ) (ht : s .kind t ≡ table g 0 
       counts = empty-counts;
     }
 
-    clean-before : (g′ : ℕ) → upd (s .dirty) g true g′ ≡ false → (g′ ≡ g → ⊥) × (s .dirty g′ ≡ false)
-    clean-before g′ d = elim (eq? g′ g) [
-      | inl e ↦ absurd (true≢false (sym (upd-at (s .dirty) g true g′ e) ∙ d))
-      | inr e ↦ (e, sym (upd-other (s .dirty) g true g′ e) ∙ d)
-    ]
-
     pub empty-kept : (k : Caches) → Kept s k → Kept (without-page s t i f g) k
     unfolding without-page
     empty-kept k q = record {
       table-ok = q .table-ok;
       page-ok = q .page-ok;
-      table-now = λ g′ h p x d a. q .table-now g′ h p x (clean-before g′ d .1) a;
+      table-now = λ g′ h p x d a. q .table-now g′ h p x (upd-not (s .dirty) g true false g′ true≢false d .1) a;
       page-now = λ g′ v x r′ d a.
-          let b = q .page-now g′ v x r′ (clean-before g′ d .1) a in
+          let z = upd-not (s .dirty) g true false g′ true≢false d in
+          let b = q .page-now g′ v x r′ (z .1) a in
           let m = b .2 in
           let m1 = m .1 in
-          (b .0, b .1, (m .0, m1, set-other 0 empty gone (m .0) (v % 512) (λ (e1 : m .0 ≡ t) e2. clean-before g′ d .0 (cc)) ∙ m .2));
+          (b .0, b .1, (m .0, m1, set-other 0 empty gone (m .0) (v % 512) (λ (e1 : m .0 ≡ t) e2. z .0 (cc)) ∙ m .2));
     }

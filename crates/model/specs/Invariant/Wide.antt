@@ -9,15 +9,15 @@ use Rattle.model.specs.State.{State, free, pages, put-byte, free-frames}
 use Rattle.model.specs.Entry.{Entry, empty, to-table, to-page, other, table-entry, page-entry}
 use Rattle.model.specs.Translate.{upper, index, entry-at, into, translate, missing-from, missing}
 use Rattle.model.specs.Changes.{Choice, zeros, becomes, with-root, with-table, grow, with-page, with-mapping, without-page, without-guest, clean}
-use Rattle.model.specs.Operations.{Out, refuse, done, create, give, map, unmap, share, unshare, take, destroy, invalidated}
-use Rattle.model.specs.Cache.{Caches, nothing-kept}
-use Rattle.model.specs.Machine.{Machine, Operation, Create, Give, Take, Map, Unmap, Share, Unshare, Destroy, Invalidated, answer, Chooses, keeps, settle, call, stored, write, Step, calls, stores, Run, stop, then}
+use Rattle.model.specs.Operations.{create, give, map, unmap, share, unshare, take, destroy, invalidated}
+use Rattle.model.specs.Cache.{nothing-kept}
+use Rattle.model.specs.Machine.{Machine, Operation, Create, Give, Take, Map, Unmap, Share, Unshare, Destroy, Invalidated, answer, Chooses, stored, Run}
 use Rattle.model.specs.Invariant.Core.{Core, in-room}
 use Rattle.model.specs.Invariant.Answer.{Then, then-done, checked, may-is}
 use Rattle.model.specs.Invariant.Pages.{may-room}
 use Rattle.model.specs.Invariant.MapUnmap.{address-low, some-is, without-is, grown-for}
 use Rattle.model.specs.Invariant.Way.{translate-from}
-use Rattle.model.specs.Invariant.Holds.{Holds, nothing-ok, step-holds}
+use Rattle.model.specs.Invariant.Holds.{Holds, Stores-keep, nothing-ok, run-keeps}
 
 abbrev pub Wide : (ℕ → ℕ → ℕ) → Type 0
 Wide w = (f i : ℕ) → w f i < 2 ^ 64
@@ -125,17 +125,9 @@ module _ (s : State) (c : Core s) (w : Wide (s .word)) where
   answer-wide (Destroy g) ch = checked 5 λ e1. checked 13 λ e2. then-done w
   answer-wide (Invalidated g) ch = checked 1 λ e1. then-done w
 
-settled-wide : (m : Machine) (k : Caches) (o : Out) → Wide (m .state .word) → Then (λ s. Wide (s .word)) o → Wide (settle m k o .state .word)
-unfolding settle
-settled-wide m k (refuse a) w x = w
-settled-wide m k (done s) w (then-done x) = x
-
-step-wide : {m m′ : Machine} → Step m m′ → Holds m → Wide (m .state .word) → Wide (m′ .state .word)
-unfolding call write stored
-step-wide (calls {m} o ch) h w = settled-wide m (keeps (m .caches) o) (answer (m .state) o) w (answer-wide (m .state) (h .core) w o ch)
-step-wide (stores {m} g f o x e l n b a) h w =
-    word-wide (m .state .word) w f (o / 8) (put-byte (o % 8) (m .state .word f (o / 8)) x) (byte-wide (o % 8) (m .state .word f (o / 8)) x (omega arith) (w f (o / 8)) b)
-
 pub run-wide : {m z : Machine} → Run m z → Holds m → Wide (m .state .word) → Wide (z .state .word)
-run-wide stop h w = w
-run-wide (then x y) h w = run-wide y (step-holds x h) (step-wide x h w)
+run-wide = run-keeps (λ s. Wide (s .word)) (λ s c w. answer-wide s c w) written
+  where
+    written : Stores-keep (λ s. Wide (s .word))
+    written m h w g f o x n b a = unfold stored in
+        word-wide (m .state .word) w f (o / 8) (put-byte (o % 8) (m .state .word f (o / 8)) x) (byte-wide (o % 8) (m .state .word f (o / 8)) x (omega arith) (w f (o / 8)) b)

@@ -19,7 +19,7 @@ use Rattle.model.specs.Cache.{Caches, nothing-kept, Table, from-root, from-word
 use Rattle.model.specs.Machine.{Machine, Operation, Create, Give, Take, Map, Unmap, Share, Unshare, Destroy, Invalidated, answer, Chooses, keeps, Run, SetUp}
 use Rattle.model.specs.Invariant.Kinds.{sort, clash, kind-from}
 use Rattle.model.specs.Invariant.Core.{Core, Kept, low, in-room}
-use Rattle.model.specs.Invariant.Way.{root-serves, step-kind, leaf-kind, leaf-from, leaf-there, translate-from, translate-at}
+use Rattle.model.specs.Invariant.Way.{root-serves, step-kind, leaf-kind, leaf-from, translate-from}
 use Rattle.model.specs.Invariant.Pages.{may-room}
 use Rattle.model.specs.Invariant.Found.{out-fits, out-stale, table-found}
 use Rattle.model.specs.Invariant.Destroy.{Was, stays, was-table, was-page, was}
@@ -28,8 +28,8 @@ use Rattle.model.specs.Invariant.MapUnmap.{address-low, some-is, grown-for, wit
 use Rattle.model.specs.Invariant.Answer.{Then, then-refuse, then-done, then-is, checked, Sound}
 use Rattle.model.specs.Invariant.Holds.{Holds, holds, answer-good, nothing-ok}
 use Rattle.model.specs.Invariant.Orderly.{Orderly, orderly}
-use Rattle.model.specs.Invariant.Linked.{Linked, comes-there}
-use Rattle.model.specs.Invariant.Hung.{hung}
+use Rattle.model.specs.Invariant.Linked.{Linked}
+use Rattle.model.specs.Invariant.Hung.{hung, last-low, entry-translates}
 use Rattle.two_runs.specs.Invariant.Alike.{Closed}
 
 -- what the tables say, the processor finds
@@ -72,29 +72,6 @@ module _ (s : State) (c : Core s) (k : Caches) (g v : ℕ) where
       ap (descriptor 0) (is-to-page (s .first) (s .word t (v % 512)) f r (w .2)) ∙ descriptor-page (s .first) f r (may-room s c g f r m) (page-low (s .first) (s .word t (v % 512)) f r (w .2)) in
       let x = way-down 3 (s .root g) (root-serves (s .kind (s .root g)) g v (c .roots g (lf .0)) l) (root-table (lf .0) l) t (lf .1) in
       read-off 0 (s .first + t) t (s .first + f) x refl (low s c t (table g 0 (v / 512)) kt refl) d refl
-
--- tables serve pages below 2^36
-module _ (s : State) (c : Core s) (l : Linked s) where
-  abbrev Below : (d p : ℕ) → Type 0
-  Below zero p = p ≡ 0
-  Below (suc d) p = Below d (p / 512)
-
-  below : (d h t g p : ℕ) → h + d ≡ 3 → s .kind t ≡ table g h p → Below d p
-  below zero h t g p e k = elim (l .hangs t g h p k) [
-    | inl x ↦ let r = c .roots g (c .table-exists t g h p k) in let x1 = x .1 in cc
-    | inr x ↦ let z = x .3 in absurd (omega arith)
-  ]
-  below (suc d) h t g p e k = elim (l .hangs t g h p k) [
-    | inl x ↦ let z = x .0 in absurd (omega arith)
-    | inr x ↦ below d (suc h) (x .0) g (p / 512) (omega arith) (x .1)
-  ]
-
-  pub last-low : (t g v : ℕ) → s .kind t ≡ table g 0 (v / 512) → v < pages
-  last-low t g v k = let z : v / 512 / 512 / 512 / 512 ≡ 0 = below 3 0 t g (v / 512) (omega arith) k in omega arith
-
-  -- an entry of a last table is what its page translates to
-  pub entry-translates : (t g v f r : ℕ) → s .kind t ≡ table g 0 (v / 512) → entry-at s t (v % 512) ≡ to-page f r → translate s g v ≡ some (f, r)
-  entry-translates t g v f r k e = translate-at s g v t f r (leaf-there s c g v (c .table-exists t g 0 (v / 512) k) ∙ comes-there s c l g v t k) e
 
 -- only destroy makes tables drain, and what drains keeps its words; a report for g leaves no table that drains for g
 abbrev pub reported : (g : ℕ) → Operation → Bool
