@@ -9,7 +9,7 @@ use Rattle.model.specs.State.{State, Kind, page, table, byte}
 use Rattle.model.specs.Operations.{done, create}
 use Rattle.model.specs.Cache.{Access}
 use Rattle.model.specs.Machine.{Machine, SetUp, Run, Step, Operation, Create, answer, Chooses, call, Reaches}
-use Rattle.moments.specs.Moments.{stores-of, Throughout, FineRun}
+use Rattle.moments.specs.Moments.{stores-of, Safe, Throughout, FineRun}
 use Rattle.model.specs.Theorems.Terms.{lends, Allowed, Handed, Laid}
 use Rattle.model.specs.Theorems.Reach as R
 use Rattle.model.specs.Theorems.TwoGuests as T
@@ -66,7 +66,7 @@ module _ {m z : Machine} (set-up : SetUp m) (run : Run m z) where
   contents = C.contents set-up run
 
   -- inside an operation, after each single store, each guest reaches only what it was allowed to before
-  moments : (o : Operation) → Chooses (z .state) o → (s′ : State) → answer (z .state) o ≡ done s′ → Throughout (z .state) (M.Safe (z .state)) (z .caches) (z .state .word) (stores-of (z .state) o)
+  moments : (o : Operation) → Chooses (z .state) o → (s′ : State) → answer (z .state) o ≡ done s′ → Throughout (z .state) (Safe (z .state)) (z .caches) (z .state .word) (stores-of (z .state) o)
   moments = M.moments set-up run
 
 -- and all of it with the processor looking, and keeping what it finds, after every single store

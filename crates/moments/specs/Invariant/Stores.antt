@@ -14,14 +14,14 @@ use Rattle.model.specs.Entry.{Entry, empty, to-table, to-page, other, table-ent
 use Rattle.model.specs.Translate.{upper, index, entry-at, into, missing-from}
 use Rattle.model.specs.Changes.{Choice, with-table, grow}
 use Rattle.model.specs.Cache.{Caches, kept, grown}
-use Rattle.moments.specs.Moments.{Store, clear-from, clear, grow-stores, store}
+use Rattle.moments.specs.Moments.{Store, clear-from, clear, grow-stores, store, Safe}
 use Rattle.model.specs.Invariant.Kinds.{sort, kind-from}
 use Rattle.model.specs.Invariant.Core.{Core, Kept}
 use Rattle.model.specs.Invariant.Way.{step-kind}
 use Rattle.model.specs.Invariant.NewTable.{both?, linked-new, linked-old, linked-core, linked-kept}
 use Rattle.model.specs.Invariant.Choice.{first-free, fewer, rest-chosen}
 use Rattle.model.specs.Invariant.Grow.{zero-missing}
-use Rattle.moments.specs.Invariant.Shadow.{Shadow, look, Safe, safe}
+use Rattle.moments.specs.Invariant.Shadow.{Shadow, look, safe}
 
 -- n words of frame f, from word i on, have become 0
 pub record Cleared (w : ℕ → ℕ → ℕ) (f i n : ℕ) (w′ : ℕ → ℕ → ℕ) : Type 0 where
