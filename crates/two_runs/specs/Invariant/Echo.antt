@@ -1,6 +1,6 @@
 -- Over words that agree, an operation answers the same, and its effect is the same but for words that nobody looked at: the nine operations.
 use mathlib.Core.Path.{_≡_, refl, sym, ap, _∙_}
-use mathlib.Core.Bool.{Bool, true, false, not, _&&_, _||_, cond}
+use mathlib.Core.Bool.{Bool, true, false, true≢false, not, _&&_, _||_, cond}
 use mathlib.Core.Logic.{_⊎_, inl, inr}
 use mathlib.Core.Option.{some}
 use Prim.Native.Nat.{ℕ, zero, suc, _+_, _*_, _≤_, _<_, _/_, _%_}
@@ -9,7 +9,7 @@ use native.Mathlib.Nat.{div-add-mod'}
 use lib.Dec.{eqb, ltb, leb}
 use borrow.Author.Tests.{leb-true}
 use Rattle.model.specs.Base.{eq?, bool?, and-true, upd, upd-same, upd-at, upd-other, upd2, upd2-at, upd2-other}
-use Rattle.model.specs.State.{State, Kind, monitor, free, table, draining-table, page, draining-page, is-page-of, free-frames, pages, byte, reworded, tabled}
+use Rattle.model.specs.State.{State, Kind, free, table, draining-table, page, draining-page, is-page-of, free-frames, pages, byte, reworded, tabled}
 use Rattle.model.specs.Entry.{Entry, empty, to-table, to-page, other, entry, page-entry, table-entry}
 use Rattle.model.specs.Translate.{upper, index, entry-at, into, leaf, translate, missing-from, missing}
 use Rattle.model.specs.Changes.{Choice, zeros, becomes, with-root, with-table, Grown, grow, with-page, with-mapping, without-page, without-mapping, drained, without-guest, released, clean}
@@ -20,6 +20,8 @@ use Rattle.model.specs.Invariant.Kinds.{page-of-is}
 use Rattle.model.specs.Invariant.Core.{Core}
 use Rattle.model.specs.Invariant.Way.{root-serves, step-kind, descend-same, translate-from}
 use Rattle.model.specs.Invariant.NewTable.{linked-new, linked-core}
+use Rattle.model.specs.Invariant.Destroy.{Was, stays, was-table, was-page, was}
+use Rattle.model.specs.Invariant.Invalidated.{stays-or-free}
 use Rattle.model.specs.Invariant.Choice.{first-free, fewer, rest-chosen}
 use Rattle.model.specs.Invariant.Grow.{zero-missing}
 use Rattle.model.specs.Invariant.MapUnmap.{address-low, some-is}
@@ -43,48 +45,18 @@ both-checked {P} {b} {b′} a {o} {o′} e h = rw e (go b h)
 abbrev pub Echo : (g : ℕ) → State → State → Type 0
 Echo g s s′ = (w : ℕ → ℕ → ℕ) × (s′ ≡ reworded s w) × Agrees g (s .kind) (s .shared) (s .word) w
 
--- what is shown after a change of kinds was shown before
-drained-reads : (g h : ℕ) (x : Kind) (how : ℕ) → reads g (drained h x) how ≡ true → reads g x how ≡ true
-unfolding drained
-drained-reads g h monitor how e = e
-drained-reads g h free how e = e
-drained-reads g h (table a n p) how e = elim (bool? (eqb a h)) [ inl q ↦ rw q at e | inr q ↦ rw q at e ]
-drained-reads g h (draining-table a n p) how e = e
-drained-reads g h (page a) how e = elim (bool? (eqb a h)) [
-  | inl q ↦ let z : eqb a g ≡ true = rw q at e in rw z
-  | inr q ↦ rw q at e
-]
-drained-reads g h (draining-page a) how e = e
+-- a test of a frame that is passed after guest h is destroyed, or its invalidation reported, was passed before
+module _ (h : ℕ) (T : Kind → Bool) where
+  drained-passed : ((n p : ℕ) → T (draining-table h n p) ≡ true → T (table h n p) ≡ true) → (T (draining-page h) ≡ true → T (page h) ≡ true) → (x : Kind) → T (drained h x) ≡ true → T x ≡ true
+  drained-passed a b x e = go (was h x)
+    where
+      go : Was h x → T x ≡ true
+      go (stays p q r) = sym (ap T p) ∙ e
+      go (was-table n p q r) = ap T q ∙ a n p (sym (ap T r) ∙ e)
+      go (was-page q r) = ap T q ∙ b (sym (ap T r) ∙ e)
 
-released-reads : (g h : ℕ) (x : Kind) (how : ℕ) → reads g (released h x) how ≡ true → reads g x how ≡ true
-unfolding released
-released-reads g h monitor how e = e
-released-reads g h free how e = e
-released-reads g h (table a n p) how e = e
-released-reads g h (draining-table a n p) how e = elim (bool? (eqb a h)) [ inl q ↦ rw q at e | inr q ↦ rw q at e ]
-released-reads g h (page a) how e = e
-released-reads g h (draining-page a) how e = elim (bool? (eqb a h)) [
-  | inl q ↦ let z : false ≡ true = rw q at e in cc
-  | inr q ↦ rw q at e
-]
-
-drained-tabled : (h : ℕ) (x : Kind) → tabled (drained h x) ≡ true → tabled x ≡ true
-unfolding drained
-drained-tabled h monitor e = e
-drained-tabled h free e = e
-drained-tabled h (table a n p) e = refl
-drained-tabled h (draining-table a n p) e = e
-drained-tabled h (page a) e = elim (bool? (eqb a h)) [ inl q ↦ rw q at e | inr q ↦ rw q at e ]
-drained-tabled h (draining-page a) e = e
-
-released-tabled : (h : ℕ) (x : Kind) → tabled (released h x) ≡ true → tabled x ≡ true
-unfolding released
-released-tabled h monitor e = e
-released-tabled h free e = e
-released-tabled h (table a n p) e = refl
-released-tabled h (draining-table a n p) e = refl
-released-tabled h (page a) e = e
-released-tabled h (draining-page a) e = elim (bool? (eqb a h)) [ inl q ↦ rw q at e | inr q ↦ rw q at e ]
+  released-passed : T free ≡ false → (x : Kind) → T (released h x) ≡ true → T x ≡ true
+  released-passed n x e = elim (stays-or-free h x) [ inl a ↦ sym (ap T a) ∙ e | inr a ↦ absurd (true≢false (sym e ∙ ap T a ∙ n)) ]
 
 module _ (g : ℕ) (s : State) (w : ℕ → ℕ → ℕ) (m : Agrees g (s .kind) (s .shared) (s .word) w) where
   -- the small changes
@@ -108,11 +80,11 @@ module _ (g : ℕ) (s : State) (w : ℕ → ℕ → ℕ) (m : Agrees g (s .kind)
 
   guest-echo : (h : ℕ) → Echo g (without-guest s h) (without-guest (reworded s w) h)
   unfolding without-guest
-  guest-echo h = (w, refl, agrees-less g (s .kind) (s .shared) (s .word) w m (λ f. drained h (s .kind f)) (s .shared) (λ t e. drained-tabled h (s .kind t) e) (λ f e. inl (drained-reads g h (s .kind f) (s .shared f g) e)))
+  guest-echo h = (w, refl, agrees-less g (s .kind) (s .shared) (s .word) w m (λ f. drained h (s .kind f)) (s .shared) (λ t. drained-passed h tabled (λ n p e. refl) (λ e. e) (s .kind t)) (λ f e. inl (drained-passed h (λ x. reads g x (s .shared f g)) (λ n p e. e) (λ (e : eqb h g ≡ true). rw e) (s .kind f) e)))
 
   clean-echo : (h : ℕ) → Echo g (clean s h) (clean (reworded s w) h)
   unfolding clean
-  clean-echo h = (w, refl, agrees-less g (s .kind) (s .shared) (s .word) w m (λ f. released h (s .kind f)) (s .shared) (λ t e. released-tabled h (s .kind t) e) (λ f e. inl (released-reads g h (s .kind f) (s .shared f g) e)))
+  clean-echo h = (w, refl, agrees-less g (s .kind) (s .shared) (s .word) w m (λ f. released h (s .kind f)) (s .shared) (λ t. released-passed h tabled refl (s .kind t)) (λ f e. inl (released-passed h (λ x. reads g x (s .shared f g)) refl (s .kind f) e)))
 
   given-echo : (f h : ℕ) → Echo g (becomes s f (page h) (upd (s .word) f zeros) (upd (s .shared) f zeros)) (becomes (reworded s w) f (page h) (upd w f zeros) (upd (s .shared) f zeros))
   unfolding becomes
