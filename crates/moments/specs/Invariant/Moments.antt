@@ -78,7 +78,7 @@ module _ (z : State) (c : Core z) (k : Caches) (q : Kept z k) (G : State → Cac
       let c′ = page-core (x .state) (y .core) (x .last) g (v / 512) (v % 512) (y .last) (omega arith) f r w m (rights-low r e4) in
       then-done (
         c′,
-        through-grow z (G (with-page (x .state) (x .last) (v % 512) f r g)) (cons (with-page (x .state) (x .last) (v % 512) f r g)) 3 z g (z .root g) v pick ch room
+        through-grow z (G (with-page (x .state) (x .last) (v % 512) f r g)) (cons (with-page (x .state) (x .last) (v % 512) f r g)) 3 z c g (z .root g) v pick ch room
             (root-serves (z .kind (z .root g)) g v (c .roots g e1) l) (last ∷ []) k (z .word) (not-begun z c k q)
             (λ k′ w′ sh. last-store (x .state) (with-page (x .state) (x .last) (v % 512) f r g) k′ w′ last sh
             (set-mapped z c k q f g a r pick k′ w′ sh c′ (page-kept (x .state) (y .core) (x .last) g (v / 512) (v % 512) (y .last) (omega arith) f r w m (rights-low r e4) k′ (sh .kept)) (y .first))),
