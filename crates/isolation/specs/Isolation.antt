@@ -1,6 +1,6 @@
 -- The third demand on one page. A step is an operation with any numbers, answered or refused, or a guest's store of a byte (Machine, Step); a run is any list of steps (Machine, Run);
 -- SetUp is the machine right after set-up, with any contents of RAM. A guest reaches the byte at physical address a for an access where its tables, or anything that the processor
--- may have kept since the last report of an invalidation, lead there with that right (Cache, Reach). Each theorem has a file of its own in Theorems, with its proof.
+-- may have kept since the last report of an invalidation, lead there with that right (Cache, Reach). The words stand in crate model; each theorem has a file of its own in Theorems of crate model, moments or two_runs, with its proof.
 use mathlib.Core.Path.{_≡_}
 use mathlib.Core.Bool.{true, false}
 use mathlib.Core.Logic.{_⊎_, _↔_}

@@ -35,7 +35,7 @@ unfolding missing-from
 zero-missing s t z zero v = refl
 zero-missing s t z (suc h) v = rw (z (index (suc h) v), entry-empty (s .first))
 
--- the table that is missing below t of height h + 1, on the way to v, is linked in
+-- the table that is missing below t, of height h + 1, on the way to v, is linked in; and what is known where that is done
 abbrev pub linked : (h : ℕ) → State → (g t v : ℕ) → (ℕ → ℕ) → State
 linked h s g t v pick = with-table s t (index (suc h) v) (pick 0) g h (upper (suc h) v)
 
@@ -47,7 +47,6 @@ pub record Links (h : ℕ) (s : State) (g t v : ℕ) (pick : ℕ → ℕ) : Type
   pub was : entry-at s t (index (suc h) v) ≡ empty
   pub range : upper (suc (suc h)) v * 512 + index (suc h) v ≡ upper (suc h) v
   pub spare : s .kind (pick 0) ≡ free
-  pub core-after : Core (linked h s g t v pick)
   pub all-missing : missing-from (linked h s g t v pick) h (pick 0) v ≡ h
 
 -- Induction over the tables that map finds and makes: the last, one that is there, one that is made.
@@ -74,7 +73,7 @@ module _ {ℓ} (P : (h : ℕ) (s : State) (g t v : ℕ) (pick : ℕ → ℕ) →
           let c′ = linked-core s c t i (pick 0) g h (upper (suc (suc h)) v) (upper (suc h) v) a (omega arith) w z f in
           let n = zero-missing (linked h s g t v pick) (pick 0) (linked-new s c t i (pick 0) g h (upper (suc (suc h)) v) (upper (suc h) v) a (omega arith) w z f (pick 0) refl) h v in
           let less = fewer s c pick ch some t i g h (upper (suc h) v) in
-          made h s g t v pick (record { core = c; chosen = ch; enough = l; above = a; was = w; range = z; spare = f; core-after = c′; all-missing = n })
+          made h s g t v pick (record { core = c; chosen = ch; enough = l; above = a; was = w; range = z; spare = f; all-missing = n })
           (ih (linked h s g t v pick) c′ g (pick 0) v (λ j. pick (suc j)) (rest-chosen s c pick ch some t i g h (upper (suc h) v)) (rw n (omega arith)) (unfold with-table in upd-same (s .kind) (pick 0) (table g h (upper (suc h) v))))
 
       at : IH → (e : Entry) → entry-at s t i ≡ e → into e (suc h) (λ t′. missing-from s h t′ v) ≤ free-frames s → P (suc h) s g t v pick
