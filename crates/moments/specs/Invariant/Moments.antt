@@ -27,7 +27,7 @@ use Rattle.moments.specs.Invariant.Stores.{through-clear, set-word, thro
 
 module _ (z : State) (c : Core z) (k : Caches) (q : Kept z k) where
   -- the operation has not begun
-  pub not-begun : Shadow z k (z .word) z
+  not-begun : Shadow z k (z .word) z
   not-begun = record {
     core = c;
     kept = q;
@@ -42,7 +42,7 @@ module _ (z : State) (c : Core z) (k : Caches) (q : Kept z k) where
   }
 
   -- the page's entry is set; an entry is emptied
-  pub set-mapped : (f g a r : ℕ) (pick : ℕ → ℕ) → let x = grow 3 z g (z .root g) (a / 4096) pick in
+  set-mapped : (f g a r : ℕ) (pick : ℕ → ℕ) → let x = grow 3 z g (z .root g) (a / 4096) pick in
       (k′ : Caches) (w′ : ℕ → ℕ → ℕ) → Shadow z k′ w′ (x .state) → Core (with-page (x .state) (x .last) (a / 4096 % 512) f r g) → Kept (with-page (x .state) (x .last) (a / 4096 % 512) f r g) k′ →
       x .state .first ≡ z .first → Shadow z k′ (upd2 w′ (x .last) (a / 4096 % 512) (page-entry (z .first) f r)) (with-page (x .state) (x .last) (a / 4096 % 512) f r g)
   unfolding with-page
@@ -51,7 +51,7 @@ module _ (z : State) (c : Core z) (k : Caches) (q : Kept z k) where
       set-word z k′ w′ (x .state) (with-page (x .state) (x .last) (a / 4096 % 512) f r g) (x .last) (a / 4096 % 512) (page-entry (z .first) f r) sh c′ q′ refl refl refl refl refl refl
       (ap (λ (n : ℕ). upd2 (x .state .word) (x .last) (a / 4096 % 512) (page-entry n f r)) e)
 
-  pub emptied : (g a t f : ℕ) → Core (without-page z t (a / 4096 % 512) f g) → Kept (without-page z t (a / 4096 % 512) f g) k → Shadow z k (upd2 (z .word) t (a / 4096 % 512) 0) (without-page z t (a / 4096 % 512) f g)
+  emptied : (g a t f : ℕ) → Core (without-page z t (a / 4096 % 512) f g) → Kept (without-page z t (a / 4096 % 512) f g) k → Shadow z k (upd2 (z .word) t (a / 4096 % 512) 0) (without-page z t (a / 4096 % 512) f g)
   unfolding without-page
   emptied g a t f c′ q′ = set-word z k (z .word) z (without-page z t (a / 4096 % 512) f g) t (a / 4096 % 512) 0 not-begun c′ q′ refl refl refl refl refl refl refl
 
