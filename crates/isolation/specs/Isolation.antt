@@ -1,6 +1,6 @@
 -- The third demand on one page. A step is an operation with any numbers, answered or refused, or a guest's store of a byte (Machine, Step); a run is any list of steps (Machine, Run);
 -- SetUp is the machine right after set-up, with any contents of RAM. A guest reaches the byte at physical address a for an access where its tables, or anything that the processor
--- may have kept since the last report of an invalidation, lead there with that right (Cache, Reach). Each theorem has a file of its own in Theorems, with its proof.
+-- may have kept since the last report of an invalidation, lead there with that right (Cache, Reach). The words stand in crate model; each theorem has a file of its own in Theorems of crate model, moments or two_runs, with its proof.
 -- These are about the model's machine. The two slices that the code works on are such a machine (Runs), and the same is said of them, in the ledger's words, in OnSlices, Contents and TwoComputers.
 use mathlib.Core.Path.{_≡_}
 use mathlib.Core.Bool.{true, false}
@@ -10,7 +10,7 @@ use Rattle.model.specs.State.{State, Kind, page, table, byte}
 use Rattle.model.specs.Operations.{done, create}
 use Rattle.model.specs.Cache.{Access}
 use Rattle.model.specs.Machine.{Machine, SetUp, Run, Step, Operation, Create, answer, Chooses, call, Reaches}
-use Rattle.moments.specs.Moments.{stores-of, Throughout, FineRun}
+use Rattle.moments.specs.Moments.{stores-of, Safe, Throughout, FineRun}
 use Rattle.model.specs.Theorems.Terms.{lends, Allowed, Handed, Laid}
 use Rattle.model.specs.Theorems.Reach as R
 use Rattle.model.specs.Theorems.TwoGuests as T
@@ -67,7 +67,7 @@ module _ {m z : Machine} (set-up : SetUp m) (run : Run m z) where
   contents = C.contents set-up run
 
   -- inside an operation, after each single store, each guest reaches only what it was allowed to before
-  moments : (o : Operation) → Chooses (z .state) o → (s′ : State) → answer (z .state) o ≡ done s′ → Throughout (z .state) (M.Safe (z .state)) (z .caches) (z .state .word) (stores-of (z .state) o)
+  moments : (o : Operation) → Chooses (z .state) o → (s′ : State) → answer (z .state) o ≡ done s′ → Throughout (z .state) (Safe (z .state)) (z .caches) (z .state .word) (stores-of (z .state) o)
   moments = M.moments set-up run
 
 -- and all of it with the processor looking, and keeping what it finds, after every single store

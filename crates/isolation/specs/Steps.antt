@@ -12,7 +12,7 @@ use Rattle.model.specs.Cache.{Caches, grown}
 use Rattle.model.specs.Machine as M
 use Rattle.model.specs.Invariant.Core.{Core, Kept}
 use Rattle.model.specs.Invariant.Holds.{Holds, step-holds}
-use Rattle.ledger.specs.Layout.{size-of, exists-of, state-in, state-of, pick-of}
+use Rattle.ledger.specs.Layout.{size-of, state-in, state-of, pick-of}
 use Rattle.ledger.specs.Stock.{Stock}
 use Rattle.ledger.specs.Sound.{Sound, chosen, within}
 use Rattle.monitor.specs.Answers.{Answers, Outcome}

@@ -1,6 +1,6 @@
 -- RAM that changed beside the tables: the operations can still count on the two slices.
 use mathlib.Core.Path.{_≡_, sym, ap, _∙_}
-use mathlib.Core.Bool.{true, false}
+use mathlib.Core.Bool.{true, false, true≢false}
 use mathlib.Core.Logic.{inl, inr}
 use mathlib.Core.List.{List}
 use Prim.Native.Nat.{ℕ, _+_, _*_, _<_, _/_}
@@ -28,7 +28,7 @@ module _ (m l : List ℕ) (ok : Sound m l) where
   word-beside at v first last = sound-beside (storedAt m at v) (length-kept m at v) (λ t e i. elim (lt? i 512) [ inl h ↦ inside t e i h | inr h ↦ unfold word-of in rw (le-ltb i 512 h) ])
     where
       other : (t f : ℕ) → tabled (kind-of l t) ≡ true → tabled (kind-of l f) ≡ false → t ≡ f → ⊥
-      other t f a b e = let z : true ≡ false = sym a ∙ ap (λ (x : ℕ). tabled (kind-of l x)) e ∙ b in let y : _≡_ {A = ℕ} 0 1 = cc in omega arith
+      other t f a b e = true≢false (sym a ∙ ap (λ (x : ℕ). tabled (kind-of l x)) e ∙ b)
 
       apart : (t i : ℕ) → i < 512 → (t ≡ at / 4096 → ⊥) → (t ≡ (at + 7) / 4096 → ⊥) → at < t * 4096 + i * 8 + 8 → t * 4096 + i * 8 < at + 8 → ⊥
       apart t i h a b p q = omega arith

@@ -1,5 +1,5 @@
 -- Of general use: a test with what it says, a function changed at a point, sums.
-use mathlib.Core.Path.{_≡_, refl, sym}
+use mathlib.Core.Path.{_≡_, refl, sym, _∙_}
 use mathlib.Core.Bool.{Bool, true, false, not, _&&_, _||_, cond}
 use mathlib.Core.Logic.{_⊎_, inl, inr}
 use Prim.Native.Nat.{ℕ, zero, suc, _+_, _≤_, _<_}
@@ -47,6 +47,10 @@ module _ {ℓ} {A : Type ℓ} where
   pub upd-other : (f : ℕ → A) (k : ℕ) (v : A) (n : ℕ) → (n ≡ k → ⊥) → upd f k v n ≡ f n
   unfolding upd
   upd-other f k v n h = rw (ne-eqb n k h)
+
+  -- where it is not v, it is as before
+  pub upd-not : (f : ℕ → A) (k : ℕ) (v x : A) (n : ℕ) → (v ≡ x → ⊥) → upd f k v n ≡ x → (n ≡ k → ⊥) × (f n ≡ x)
+  upd-not f k v x n ne h = elim (eq? n k) [ inl e ↦ absurd (ne (sym (upd-at f k v n e) ∙ h)) | inr e ↦ (e, sym (upd-other f k v n e) ∙ h) ]
 
 -- the same over two indices
 module _ {ℓ} {A : Type ℓ} where

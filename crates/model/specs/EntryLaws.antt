@@ -1,7 +1,7 @@
 -- The laws of entries: what the monitor writes reads back, nothing is lost, and what the processor sees in it.
 use mathlib.Core.Path.{_≡_, refl, sym, ap, _∙_}
 use mathlib.Core.Logic.{inl, inr}
-use Prim.Native.Nat.{ℕ, suc, _+_, _*_, _-_, _<_, _/_, _%_}
+use Prim.Native.Nat.{ℕ, suc, _+_, _*_, _-_, _<_, _/_, _%_, _^_}
 use native.Mathlib.Omega.{arith}
 use lib.Dec.{eqb}
 use borrow.Author.Tests.{eqb-true, eq-eqb, ne-eqb}
@@ -10,25 +10,22 @@ use Rattle.model.specs.State.{pages}
 use Rattle.model.specs.Entry.{Entry, empty, to-table, to-page, other, entry, table-entry, page-entry, rights-of}
 use Rattle.model.specs.Cache.{invalid, next, output, descriptor}
 
--- F the number of a frame in physical memory, w 1 if writing, x 1 if no executing, r 1 if reading
-module _ (F r w x : ℕ) (hF : F < pages) (hr : r < 2) (hw : w < 2) (hx : x < 2) where
-  abbrev bits : ℕ
-  bits = F * 4096 + 0x73f + 64 * r + 128 * w + 0x40000000000000 * x
+-- What the bits of a page's entry n say. F the number of the frame in physical memory, r and w 1 if reading and writing, x 1 if no executing
+pub record Bits (n F r w x : ℕ) : Type 0 where
+  pub three : n % 4 ≡ 3
+  pub page : n / 4096 % 0x1000000000 ≡ F
+  pub low : n / 2 ^ 48 % 8 ≡ 0
+  pub flag : n / 2 ^ 10 % 2 ≡ 1
+  pub read : n / 64 % 2 ≡ r
+  pub write : n / 128 % 2 ≡ w
+  pub never : n / 0x40000000000000 % 2 ≡ x
 
-  bits-kind : bits % 4 ≡ 3
-  bits-kind = omega arith
+bits : (F r w x : ℕ) → F < pages → r < 2 → w < 2 → x < 2 → Bits (F * 4096 + 0x73f + 64 * r + 128 * w + 0x40000000000000 * x) F r w x
+bits F r w x hF hr hw hx = record { three = omega arith; page = omega arith; low = omega arith; flag = omega arith; read = omega arith; write = omega arith; never = omega arith }
 
-  bits-page : bits / 4096 % 0x1000000000 ≡ F
-  bits-page = omega arith
-
-  bits-read : bits / 64 % 2 ≡ r
-  bits-read = omega arith
-
-  bits-write : bits / 128 % 2 ≡ w
-  bits-write = omega arith
-
-  bits-never : bits / 0x40000000000000 % 2 ≡ x
-  bits-never = omega arith
+pub page-bits : (first f r : ℕ) → first + f < pages → Bits (page-entry first f r) (first + f) (r % 2) (r / 2 % 2) (1 - r / 4 % 2)
+unfolding page-entry
+page-bits first f r l = bits (first + f) (r % 2) (r / 2 % 2) (1 - r / 4 % 2) l (omega arith) (omega arith) (omega arith)
 
 -- the number of an entry
 abbrev pub number : ℕ → Entry → ℕ
@@ -75,6 +72,9 @@ module _ (first t : ℕ) (l : first + t < pages) where
   unfolding table-entry
   table-tail = omega arith
 
+  pub table-kind : table-entry first t % 4 ≡ 3
+  table-kind = let z = table-tail in omega arith
+
   pub entry-table : entry first (table-entry first t) ≡ to-table t
   unfolding entry
   entry-table =
@@ -83,10 +83,7 @@ module _ (first t : ℕ) (l : first + t < pages) where
 
   pub descriptor-table : (h : ℕ) → descriptor (suc h) (table-entry first t) ≡ next (first + t)
   unfolding descriptor
-  descriptor-table h =
-      let z = table-tail in
-      let k : table-entry first t % 4 ≡ 3 = omega arith in
-      rw (k, table-page)
+  descriptor-table h = rw (table-kind, table-page)
 
 twice-less : (b : ℕ) → b < 2 → 1 - (1 - b) ≡ b
 twice-less b h = omega arith
@@ -102,19 +99,9 @@ sum-bits r h =
     join r x y z p q a b d = omega arith
 
 module _ (first f r : ℕ) (l : first + f < pages) (hr : r < 8) where
-  pub page-kind : page-entry first f r % 4 ≡ 3
-  unfolding page-entry
-  page-kind = bits-kind (first + f) (r % 2) (r / 2 % 2) (1 - r / 4 % 2) l (omega arith) (omega arith) (omega arith)
-
-  pub page-page : page-entry first f r / 4096 % 0x1000000000 ≡ first + f
-  unfolding page-entry
-  page-page = bits-page (first + f) (r % 2) (r / 2 % 2) (1 - r / 4 % 2) l (omega arith) (omega arith) (omega arith)
-
-  pub page-rights : rights-of (page-entry first f r) ≡ r
-  unfolding page-entry rights-of
-  page-rights =
-      rw (bits-read (first + f) (r % 2) (r / 2 % 2) (1 - r / 4 % 2) l (omega arith) (omega arith) (omega arith), bits-write (first + f) (r % 2) (r / 2 % 2) (1 - r / 4 % 2) l (omega arith) (omega arith) (omega arith), bits-never (first + f) (r % 2) (r / 2 % 2) (1 - r / 4 % 2) l (omega arith) (omega arith) (omega arith))
-      (sum-bits r hr)
+  page-rights : rights-of (page-entry first f r) ≡ r
+  unfolding rights-of
+  page-rights = let y = page-bits first f r l in rw (y .read, y .write, y .never) (sum-bits r hr)
 
   page-tail : page-entry first f r % 64 ≡ 63
   unfolding page-entry
@@ -125,11 +112,11 @@ module _ (first f r : ℕ) (l : first + f < pages) (hr : r < 8) where
   entry-page =
       let back : first + f - first ≡ f = omega arith in
       let z = page-tail in
-      rw (page-page, back, page-rights, ne-eqb (page-entry first f r) 0 (λ e. omega arith), ne-eqb (page-entry first f r) (table-entry first f) (λ (e : page-entry first f r ≡ table-entry first f). let y = table-tail first f l in omega arith), eq-eqb (page-entry first f r) (page-entry first f r) refl)
+      rw (page-bits first f r l .page, back, page-rights, ne-eqb (page-entry first f r) 0 (λ e. omega arith), ne-eqb (page-entry first f r) (table-entry first f) (λ (e : page-entry first f r ≡ table-entry first f). let y = table-tail first f l in omega arith), eq-eqb (page-entry first f r) (page-entry first f r) refl)
 
   pub descriptor-page : descriptor 0 (page-entry first f r) ≡ output (first + f) r
   unfolding descriptor
-  descriptor-page = rw (page-kind, page-page, page-rights)
+  descriptor-page = let y = page-bits first f r l in rw (y .three, y .page, page-rights)
 
 pub descriptor-empty : (h : ℕ) → descriptor h 0 ≡ invalid
 unfolding descriptor

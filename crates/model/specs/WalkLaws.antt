@@ -1,17 +1,17 @@
 -- Laws of the way through the tables, for the code that goes it level by level and looks at numbers: a word that is not 0 leads to a table, or in a last table to a page.
-use mathlib.Core.Path.{_≡_, refl, sym, ap, _∙_}
-use mathlib.Core.Bool.{Bool, true, false}
-use mathlib.Core.Logic.{_⊎_, inl, inr}
-use mathlib.Core.Option.{Option, none, some}
-use Prim.Native.Nat.{ℕ, zero, suc, _+_, _*_, _<_, _/_, _%_}
+use mathlib.Core.Path.{_≡_, refl, ap, _∙_}
+use mathlib.Core.Bool.{true}
+use mathlib.Core.Logic.{inl, inr}
+use mathlib.Core.Option.{none, some}
+use Prim.Native.Nat.{ℕ, suc, _+_, _*_, _<_, _/_, _%_}
 use native.Mathlib.Omega.{arith}
 use native.Mathlib.Nat.{div-add-mod'}
-use Rattle.model.specs.State.{State, Kind, table, page, pages}
-use Rattle.model.specs.Entry.{Entry, empty, to-table, to-page, other, entry, table-entry, page-entry}
-use Rattle.model.specs.EntryLaws.{entry-empty, is-empty, is-table, is-to-page, page-low, page-page}
-use Rattle.model.specs.Translate.{upper, index, entry-at, descend, missing-from, page-in, leaf, translate}
-use Rattle.model.specs.Changes.{Grown, grow, with-table}
-use Rattle.model.specs.Invariant.Core.{May, Fits, Core, low, in-room}
+use Rattle.model.specs.State.{State, table, page, pages}
+use Rattle.model.specs.Entry.{Entry, empty, to-table, to-page, other, entry, table-entry}
+use Rattle.model.specs.EntryLaws.{entry-empty, is-empty, is-table, is-to-page, page-bits}
+use Rattle.model.specs.Translate.{upper, index, entry-at, descend, missing-from}
+use Rattle.model.specs.Changes.{grow, with-table}
+use Rattle.model.specs.Invariant.Core.{May, Fits, Core, low}
 use Rattle.model.specs.Invariant.Pages.{may-room}
 use Rattle.model.specs.Invariant.Way.{root-serves}
 
@@ -106,7 +106,7 @@ module _ (s : State) (c : Core s) (g t : ℕ) where
         reads = refl;
         may = k;
         below = size-of f r k;
-        number = ap (λ (y : ℕ). y / 4096 % 0x1000000000) (is-to-page (s .first) x f r q) ∙ page-page (s .first) f r (may-room s c g f r k) (page-low (s .first) x f r q);
+        number = ap (λ (y : ℕ). y / 4096 % 0x1000000000) (is-to-page (s .first) x f r q) ∙ page-bits (s .first) f r (may-room s c g f r k) .page;
       }
       go (other y) q k = absurd k
 

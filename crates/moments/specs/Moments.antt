@@ -11,8 +11,9 @@ use Rattle.model.specs.Entry.{table-entry, page-entry}
 use Rattle.model.specs.Translate.{upper, index, entry-at, into, leaf}
 use Rattle.model.specs.Changes.{with-table, grow}
 use Rattle.model.specs.Operations.{Out, refuse, done}
-use Rattle.model.specs.Cache.{Caches, grown, writing}
+use Rattle.model.specs.Cache.{Caches, grown, Access, writing, Reach}
 use Rattle.model.specs.Machine.{Machine, Operation, Create, Give, Take, Map, Unmap, Share, Unshare, Destroy, Invalidated, answer, Chooses, keeps, write, Reaches}
+use Rattle.model.specs.Theorems.Terms.{Allowed}
 
 -- word `index` of frame `frame` becomes `value`
 pub record Store : Type 0 where
@@ -61,6 +62,10 @@ store w x = upd2 w (x .frame) (x .index) (x .value)
 unfoldable pub after-stores : (ℕ → ℕ → ℕ) → List Store → ℕ → ℕ → ℕ
 after-stores w [] = w
 after-stores w (x ∷ rest) = after-stores (store w x) rest
+
+-- with the words w in RAM and k kept, nobody reaches beyond what s allows
+abbrev pub Safe : State → Caches → (ℕ → ℕ → ℕ) → Type 0
+Safe s k w = (g : ℕ) (acc : Access) (a : ℕ) → Reach (reworded s w) k g acc a → (f : ℕ) × (a / 4096 ≡ s .first + f) × Allowed s g f acc
 
 -- P of the words in RAM and of what is kept: before the first store and after each; the processor keeps all that it can find at each of these moments
 abbrev pub Throughout : (s : State) (P : Caches → (ℕ → ℕ → ℕ) → Type 0) → Caches → (ℕ → ℕ → ℕ) → List Store → Type 0

@@ -28,10 +28,11 @@ unfolding settle after
 settled m k (refuse n) = refl
 settled m k (done s) = refl
 
-pub asked-state : (m : Machine) (l : List Ask) → machine-after m l .state ≡ state-after (m .state) l
+pub asked-state : {s : State} (m : Machine) (l : List Ask) → m .state ≡ s → machine-after m l .state ≡ state-after s l
 unfolding machine-after state-after
-asked-state m [] = refl
-asked-state m (a ∷ rest) = asked-state (call m (operation (m .state) a)) rest ∙ ap (λ (s : State). state-after s rest) (unfold call in settled m (keeps (m .caches) (operation (m .state) a)) (answer (m .state) (operation (m .state) a)))
+asked-state m [] e = e
+asked-state {s} m (a ∷ rest) e =
+    asked-state (call m (operation (m .state) a)) rest (unfold call in settled m (keeps (m .caches) (operation (m .state) a)) (answer (m .state) (operation (m .state) a)) ∙ ap (λ (u : State). after u (answer u (operation u a))) e)
 
 pub run-then : {m m′ z : Machine} → Run m m′ → Run m′ z → Run m z
 run-then stop y = y
@@ -67,15 +68,15 @@ run-32 = run-then run-19 (asked-run machine-19 reuse)
 
 pub state-11 : machine-11 .state ≡ after-11
 unfolding machine-11 machine-0 after-11
-state-11 = asked-state (record { state = begin 2; caches = nothing-kept }) sharing
+state-11 = asked-state (record { state = begin 2; caches = nothing-kept }) sharing refl
 
 pub state-19 : machine-19 .state ≡ after-19
 unfolding machine-19 after-19
-state-19 = asked-state machine-11 draining ∙ ap (λ (s : State). state-after s draining) state-11
+state-19 = asked-state machine-11 draining state-11
 
 pub state-32 : machine-32 .state ≡ after-32
 unfolding machine-32 after-32
-state-32 = asked-state machine-19 reuse ∙ ap (λ (s : State). state-after s reuse) state-19
+state-32 = asked-state machine-19 reuse state-19
 
 -- what was kept stays through asks that do not report g's invalidation
 abbrev Quiet : ℕ → Ask → Type 0

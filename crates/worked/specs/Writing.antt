@@ -93,19 +93,19 @@ run-again = run-then run-destroyed (asked-run machine-destroyed used-again)
 
 state-writes : machine-writes .state ≡ both-write
 unfolding machine-writes machine-0 both-write
-state-writes = asked-state (record { state = begin 2; caches = nothing-kept }) to-write
+state-writes = asked-state (record { state = begin 2; caches = nothing-kept }) to-write refl
 
 state-parted : machine-parted .state ≡ parted
 unfolding machine-parted parted
-state-parted = asked-state machine-writes parting ∙ ap (λ (s : State). state-after s parting) state-writes
+state-parted = asked-state machine-writes parting state-writes
 
 state-destroyed : machine-destroyed .state ≡ destroyed
 unfolding machine-destroyed destroyed
-state-destroyed = asked-state machine-parted destroying ∙ ap (λ (s : State). state-after s destroying) state-parted
+state-destroyed = asked-state machine-parted destroying state-parted
 
 state-again : machine-again .state ≡ others-have
 unfolding machine-again others-have
-state-again = asked-state machine-destroyed used-again ∙ ap (λ (s : State). state-after s used-again) state-destroyed
+state-again = asked-state machine-destroyed used-again state-destroyed
 
 -- frame 8 is shared for writing, and both reach it for writing
 pub shared-to-write : (machine-writes .state .kind 8 ≡ page 1) × (machine-writes .state .shared 8 2 ≡ 2)

@@ -15,14 +15,14 @@ use Rattle.walk.proofs.Laws.Level.{read-in, slot-at, stage-2-rest, level-empty,
 use Rattle.walk.proofs.Laws.Fits.{answer-2-is}
 use Rattle.model.specs.State.{State, table, pages}
 use Rattle.model.specs.Entry.{Entry, empty, to-table, to-page, other, table-entry, page-entry}
-use Rattle.model.specs.EntryLaws.{is-empty, is-table, is-to-page}
+use Rattle.model.specs.EntryLaws.{is-empty, is-table, is-to-page, table-kind, page-bits}
 use Rattle.model.specs.Translate.{upper, index, entry-at, descend, page-at, translate, missing-from, missing}
 use Rattle.model.specs.Cache.{Access, reading, writing, executing}
 use Rattle.model.specs.Bytes.{Image, access, comes, says, answers}
 use Rattle.model.specs.Invariant.Core.{May, Fits, Core, low, in-room}
 use Rattle.model.specs.Invariant.Way.{root-serves, step-kind, leaf-there}
 use Rattle.model.specs.Invariant.Pages.{may-room}
-use Rattle.model.specs.Invariant.Descriptors.{table-three, table-low, table-high, table-address, page-three, page-low, page-flag, page-address, page-allows}
+use Rattle.model.specs.Invariant.Descriptors.{table-low, table-high, table-address, page-address, page-allows}
 
 access-low : (w : Access) → access w < 3
 access-low reading = omega arith
@@ -74,7 +74,7 @@ module _ (s : State) (c : Core s) (b : ℕ) (m : List ℕ) (x : Image s b m) (g 
       let base = x .base in
       let to : address d ≡ b + 4096 * t′ = table-address (s .first) t′ r ∙ omega arith in
       ends-after (slot (3 - suc h) a (b + 4096 * t))
-      (level-table m b (access w) a h (b + 4096 * t) d l (reads (suc h) t d l k (is-table (s .first) (s .word t (index (suc h) (a / 4096))) t′ e)) (table-three (s .first) t′ r) (table-low (s .first) t′ r) (table-high (s .first) t′ r)
+      (level-table m b (access w) a h (b + 4096 * t) d l (reads (suc h) t d l k (is-table (s .first) (s .word t (index (suc h) (a / 4096))) t′ e)) (table-kind (s .first) t′ r) (table-low (s .first) t′ r) (table-high (s .first) t′ r)
       ∙ ap (λ (u : ℕ). having-fetched (slot (3 - suc h) a (b + 4096 * t) ∷ []) (rest-2 m b (access w) a h u)) to) y
 
   -- a page
@@ -84,7 +84,7 @@ module _ (s : State) (c : Core s) (b : ℕ) (m : List ℕ) (x : Image s b m) (g 
       let base = x .base in
       let to : address d + a % 4096 ≡ b + 4096 * f + a % 4096 = ap (λ (u : ℕ). u + a % 4096) (page-address (s .first) f r l) ∙ omega arith in
       ends-after (slot 3 a (b + 4096 * t))
-      (level-page m b (access w) a (b + 4096 * t) d (reads 0 t d (omega arith) k (is-to-page (s .first) (s .word t (index 0 (a / 4096))) f r e)) (page-three (s .first) f r l) (page-low (s .first) f r l) (page-flag (s .first) f r l)
+      (level-page m b (access w) a (b + 4096 * t) d (reads 0 t d (omega arith) k (is-to-page (s .first) (s .word t (index 0 (a / 4096))) f r e)) (page-bits (s .first) f r l .three) (page-bits (s .first) f r l .low) (page-bits (s .first) f r l .flag)
       ∙ ap (λ (u : ℕ). having-fetched (slot 3 a (b + 4096 * t) ∷ []) (ends (cond (allows-2 (access w) d) (reached u) (failed Permission 3)))) to
       ∙ ap (λ (u : Bool). having-fetched (slot 3 a (b + 4096 * t) ∷ []) (ends (cond u (reached (b + 4096 * f + a % 4096)) (failed Permission 3)))) (page-allows (s .first) f r l w))
       (ends-now (comes b (a % 4096) 0 w (some (f, r))))

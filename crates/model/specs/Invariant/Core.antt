@@ -17,45 +17,43 @@ use Rattle.model.specs.Invariant.Kinds.{sort, clash}
 abbrev pub May : State → (g f r : ℕ) → Type 0
 May s g f r = (s .kind f ≡ page g) ⊎ ((o : ℕ) × (s .kind f ≡ page o) × (shares (s .shared f g) r ≡ true))
 
--- what an entry of g's table of height h, for the range q, may be
-module _ (kind : ℕ → Kind) (M : (g f r : ℕ) → Type 0) (g : ℕ) where
-  abbrev pub Fits : (h q : ℕ) → Entry → Type 0
-  Fits h q empty = Unit {0}
-  Fits zero q (to-table t) = ⊥
-  Fits (suc h) q (to-table t) = kind t ≡ table g h q
-  Fits zero q (to-page f r) = M g f r
-  Fits (suc h) q (to-page f r) = ⊥
-  Fits h q (other x) = ⊥
+-- what an entry of a table of height h, for the range q, may be: T of the table that it leads to, P of the page
+module _ (T : (t h q : ℕ) → Type 0) (P : (f r : ℕ) → Type 0) where
+  abbrev pub Leads-to : (h q : ℕ) → Entry → Type 0
+  Leads-to h q empty = Unit {0}
+  Leads-to zero q (to-table t) = ⊥
+  Leads-to (suc h) q (to-table t) = T t h q
+  Leads-to zero q (to-page f r) = P f r
+  Leads-to (suc h) q (to-page f r) = ⊥
+  Leads-to h q (other x) = ⊥
 
--- the same where the table drains
-module _ (kind : ℕ → Kind) (g : ℕ) where
-  abbrev pub Stale : (h q : ℕ) → Entry → Type 0
-  Stale h q empty = Unit {0}
-  Stale zero q (to-table t) = ⊥
-  Stale (suc h) q (to-table t) = kind t ≡ draining-table g h q
-  Stale zero q (to-page f r) = kind f ≡ draining-page g
-  Stale (suc h) q (to-page f r) = ⊥
-  Stale h q (other x) = ⊥
+leads-keep : (T T′ : (t h q : ℕ) → Type 0) (P P′ : (f r : ℕ) → Type 0) → ((t h q : ℕ) → T t h q → T′ t h q) →
+    (h q : ℕ) (e : Entry) → ((f r : ℕ) → h ≡ 0 → e ≡ to-page f r → P f r → P′ f r) → Leads-to T P h q e → Leads-to T′ P′ h q e
+leads-keep T T′ P P′ a h q empty b x = tt
+leads-keep T T′ P P′ a zero q (to-table t) b x = x
+leads-keep T T′ P P′ a (suc h) q (to-table t) b x = a t h q x
+leads-keep T T′ P P′ a zero q (to-page f r) b x = b f r refl refl x
+leads-keep T T′ P P′ a (suc h) q (to-page f r) b x = x
+leads-keep T T′ P P′ a h q (other y) b x = x
+
+-- so in g's tables
+abbrev pub Fits : (kind : ℕ → Kind) (M : (g f r : ℕ) → Type 0) (g : ℕ) (h q : ℕ) → Entry → Type 0
+Fits kind M g = Leads-to (λ t h q. kind t ≡ table g h q) (M g)
 
 pub fits-keep : (kind kind′ : ℕ → Kind) (M M′ : (g f r : ℕ) → Type 0) (g : ℕ) →
     ((t h p : ℕ) → kind t ≡ table g h p → kind′ t ≡ table g h p) →
     (h q : ℕ) (e : Entry) → ((f r : ℕ) → h ≡ 0 → e ≡ to-page f r → M g f r → M′ g f r) → Fits kind M g h q e → Fits kind′ M′ g h q e
-fits-keep kind kind′ M M′ g a h q empty b x = tt
-fits-keep kind kind′ M M′ g a zero q (to-table t) b x = x
-fits-keep kind kind′ M M′ g a (suc h) q (to-table t) b x = a t h q x
-fits-keep kind kind′ M M′ g a zero q (to-page f r) b x = b f r refl refl x
-fits-keep kind kind′ M M′ g a (suc h) q (to-page f r) b x = x
-fits-keep kind kind′ M M′ g a h q (other y) b x = x
+fits-keep kind kind′ M M′ g = leads-keep (λ t h q. kind t ≡ table g h q) (λ t h q. kind′ t ≡ table g h q) (M g) (M′ g)
+
+-- and in those that drain for g
+abbrev pub Stale : (kind : ℕ → Kind) (g : ℕ) (h q : ℕ) → Entry → Type 0
+Stale kind g = Leads-to (λ t h q. kind t ≡ draining-table g h q) (λ f r. kind f ≡ draining-page g)
 
 pub stale-keep : (kind kind′ : ℕ → Kind) (g : ℕ) →
     ((t h p : ℕ) → kind t ≡ draining-table g h p → kind′ t ≡ draining-table g h p) → ((f : ℕ) → kind f ≡ draining-page g → kind′ f ≡ draining-page g) →
     (h q : ℕ) (e : Entry) → Stale kind g h q e → Stale kind′ g h q e
-stale-keep kind kind′ g a b h q empty x = tt
-stale-keep kind kind′ g a b zero q (to-table t) x = x
-stale-keep kind kind′ g a b (suc h) q (to-table t) x = a t h q x
-stale-keep kind kind′ g a b zero q (to-page f r) x = b f x
-stale-keep kind kind′ g a b (suc h) q (to-page f r) x = x
-stale-keep kind kind′ g a b h q (other y) x = x
+stale-keep kind kind′ g a b h q e =
+    leads-keep (λ t h q. kind t ≡ draining-table g h q) (λ t h q. kind′ t ≡ draining-table g h q) (λ f r. kind f ≡ draining-page g) (λ f r. kind′ f ≡ draining-page g) a h q e (λ f r _ _. b f)
 
 -- the places that lead to f from g's tables
 abbrev pub is-last : Kind → ℕ → Bool

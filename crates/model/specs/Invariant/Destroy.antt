@@ -2,10 +2,10 @@
 use mathlib.Core.Path.{_≡_, refl, sym, ap, _∙_}
 use mathlib.Core.Bool.{true≢false, true, false, not, _&&_, _||_}
 use mathlib.Core.Logic.{_⊎_, inl, inr}
-use Prim.Native.Nat.{ℕ, zero, suc, _+_, _*_, _/_}
+use Prim.Native.Nat.{ℕ, zero, suc, _+_, _*_}
 use lib.Dec.{eqb}
 use borrow.Author.Tests.{eqb-true, eq-eqb, ne-eqb}
-use Rattle.model.specs.Base.{eq?, and-true, or-right, upd, upd-at, upd-other, sum, sum-none, all, all-true}
+use Rattle.model.specs.Base.{eq?, and-true, or-right, upd, upd-other, upd-not, sum, sum-none, all, all-true}
 use Rattle.model.specs.State.{State, Kind, monitor, free, table, draining-table, page, draining-page, is-page, is-page-of, total}
 use Rattle.model.specs.Entry.{Entry, empty, to-table, to-page, other}
 use Rattle.model.specs.Translate.{entry-at}
@@ -19,36 +19,7 @@ use Rattle.model.specs.Invariant.GiveTake.{shares-0, with-nobody}
 use Rattle.model.specs.Invariant.Answer.{Good, then-done, checked}
 
 module _ (g : ℕ) where
-  -- what a frame becomes
-  pub drained-other : (x : Kind) (h n p : ℕ) → (h ≡ g → ⊥) → x ≡ table h n p → drained g x ≡ table h n p
-  unfolding drained
-  drained-other x h n p ne e = rw (e, ne-eqb h g ne)
-
-  pub drained-table : (x : Kind) (h n p : ℕ) → h ≡ g → x ≡ table h n p → drained g x ≡ draining-table h n p
-  unfolding drained
-  drained-table x h n p q e = rw (e, eq-eqb h g q)
-
-  pub drained-page : (x : Kind) (h : ℕ) → h ≡ g → x ≡ page h → drained g x ≡ draining-page h
-  unfolding drained
-  drained-page x h q e = rw (e, eq-eqb h g q)
-
-  pub drained-page-other : (x : Kind) (h : ℕ) → (h ≡ g → ⊥) → x ≡ page h → drained g x ≡ page h
-  unfolding drained
-  drained-page-other x h ne e = rw (e, ne-eqb h g ne)
-
-  pub drained-draining-table : (x : Kind) (h n p : ℕ) → x ≡ draining-table h n p → drained g x ≡ draining-table h n p
-  unfolding drained
-  drained-draining-table x h n p e = rw e
-
-  pub drained-draining-page : (x : Kind) (h : ℕ) → x ≡ draining-page h → drained g x ≡ draining-page h
-  unfolding drained
-  drained-draining-page x h e = rw e
-
-  pub drained-monitor : (x : Kind) → x ≡ monitor → drained g x ≡ monitor
-  unfolding drained
-  drained-monitor x e = rw e
-
-  -- and what it was
+  -- what a frame was that is drained
   pub data Was (x : Kind) : Type 0 where
     stays : drained g x ≡ x → ((h n p : ℕ) → x ≡ table h n p → h ≡ g → ⊥) → ((h : ℕ) → x ≡ page h → h ≡ g → ⊥) → Was x
     was-table : (n p : ℕ) → x ≡ table g n p → drained g x ≡ draining-table g n p → Was x
@@ -136,58 +107,51 @@ module _ (g : ℕ) where
         (all-true (s .size) (unshared s g) alone f (low s c f (page g) a refl)) (rw a)) .1) (rw a (eq-eqb g g refl)))) h
 
     may-keep : (h f r : ℕ) → (h ≡ g → ⊥) → May s h f r → May (without-guest s g) h f r
-    unfolding without-guest
-    may-keep h f r ne (inl a) = inl (drained-page-other (s .kind f) h ne a)
+    unfolding without-guest drained
+    may-keep h f r ne (inl a) = inl (rw (a, ne-eqb h g ne))
     may-keep h f r ne (inr a) = inr (
       a .0,
-      drained-page-other (s .kind f) (a .0) (λ (z : a .0 ≡ g). shares-0 (s .shared f h) r (not-of f h (a .1 ∙ ap page z)) (a .2)) (a .1),
+      rw (a .1, ne-eqb (a .0) g (λ (z : a .0 ≡ g). shares-0 (s .shared f h) r (not-of f h (a .1 ∙ ap page z)) (a .2))),
       a .2,
     )
 
     may-drain : (f r : ℕ) → May s g f r → drained g (s .kind f) ≡ draining-page g
-    may-drain f r (inl a) = drained-page (s .kind f) g refl a
+    unfolding drained
+    may-drain f r (inl a) = rw (a, eq-eqb g g refl)
     may-drain f r (inr a) = absurd (shares-0 (s .shared f g) r (not-with f (a .0) (a .1)) (a .2))
 
     may-drains : (h f r : ℕ) → h ≡ g → May s h f r → drained g (s .kind f) ≡ draining-page h
     may-drains h f r e m = may-drain f r (rw e at m) ∙ ap draining-page (sym e)
 
     fits-stale : (n p : ℕ) (e : Entry) → Fits (s .kind) (May s) g n p e → Stale (λ f. drained g (s .kind f)) g n p e
+    unfolding drained
     fits-stale n p empty h = tt
     fits-stale zero p (to-table t) h = h
-    fits-stale (suc n) p (to-table t) h = drained-table (s .kind t) g n p refl h
+    fits-stale (suc n) p (to-table t) h = rw (h, eq-eqb g g refl)
     fits-stale zero p (to-page f r) h = may-drain f r h
     fits-stale (suc n) p (to-page f r) h = h
     fits-stale n p (other x) h = h
 
     alive : (h : ℕ) → upd (s .exists) g false h ≡ true → (h ≡ g → ⊥) × (s .exists h ≡ true)
-    alive h l = elim (eq? h g) [
-      | inl e ↦ absurd (true≢false (sym l ∙ upd-at (s .exists) g false h e))
-      | inr e ↦ (e, sym (upd-other (s .exists) g false h e) ∙ l)
-    ]
-
-    clean-still : (h : ℕ) → upd (s .dirty) g true h ≡ false → (h ≡ g → ⊥) × (s .dirty h ≡ false)
-    clean-still h d = elim (eq? h g) [
-      | inl e ↦ absurd (true≢false (sym (upd-at (s .dirty) g true h e) ∙ d))
-      | inr e ↦ (e, sym (upd-other (s .dirty) g true h e) ∙ d)
-    ]
+    alive h l = upd-not (s .exists) g false true h (λ e. true≢false (sym e)) l
 
     pub destroyed-core : Core (without-guest s g)
-    unfolding without-guest places
+    unfolding without-guest drained places
     destroyed-core = record {
       room = c .room;
-      beyond = λ t l. drained-monitor (s .kind t) (c .beyond t l);
+      beyond = λ t l. rw (c .beyond t l);
       table-exists = λ t h n p a.
           let b = from-table (s .kind t) h n p a in
           upd-other (s .exists) g false h (b .1) ∙ c .table-exists t h n p (b .0);
       tables = λ t h n p a i l.
           let b = from-table (s .kind t) h n p a in
-          fits-keep (s .kind) (λ f. drained g (s .kind f)) (May s) (May (without-guest s g)) h (λ t n p d. drained-other (s .kind t) h n p (b .1) d) n (p * 512 + i) (entry-at s t i)
+          fits-keep (s .kind) (λ f. drained g (s .kind f)) (May s) (May (without-guest s g)) h (λ t n p d. rw (d, ne-eqb h g (b .1))) n (p * 512 + i) (entry-at s t i)
           (λ f r z e m. may-keep h f r (b .1) m) (c .tables t h n p (b .0) i l);
       draining = λ t h n p a i l. elim (from-draining (s .kind t) h n p a) [
-        | inl b ↦ stale-keep (s .kind) (λ f. drained g (s .kind f)) h (λ t n p d. drained-draining-table (s .kind t) h n p d) (λ f d. drained-draining-page (s .kind f) h d) n (p * 512 + i) (entry-at s t i) (c .draining t h n p b i l)
+        | inl b ↦ stale-keep (s .kind) (λ f. drained g (s .kind f)) h (λ t n p d. rw d) (λ f d. rw d) n (p * 512 + i) (entry-at s t i) (c .draining t h n p b i l)
         | inr b ↦ rw (b .1) (fits-stale n (p * 512 + i) (entry-at s t i) (c .tables t g n p (rw (b .1) at (b .0)) i l))
       ];
-      roots = λ h l. let b = alive h l in drained-other (s .kind (s .root h)) h 3 0 (b .0) (c .roots h (b .1));
+      roots = λ h l. let b = alive h l in rw (c .roots h (b .1), ne-eqb h g (b .0));
       page-exists = λ f h a. let b = from-page (s .kind f) h a in upd-other (s .exists) g false h (b .1) ∙ c .page-exists f h (b .0);
       strangers = λ f o h a l.
           let b = from-page (s .kind f) o a in
@@ -203,15 +167,15 @@ module _ (g : ℕ) where
     }
 
     pub destroyed-kept : (k : Caches) → Kept s k → Kept (without-guest s g) k
-    unfolding without-guest
+    unfolding without-guest drained
     destroyed-kept k q = record {
       table-ok = λ h n p x a.
           let b = q .table-ok h n p x a in (
             b .0,
             b .1,
             elim (b .2) [
-              | inl d ↦ elim (eq? h g) [ inl e ↦ inr (drained-table (s .kind (b .0)) h n p e d) | inr e ↦ inl (drained-other (s .kind (b .0)) h n p e d) ]
-              | inr d ↦ inr (drained-draining-table (s .kind (b .0)) h n p d)
+              | inl d ↦ elim (eq? h g) [ inl e ↦ inr (rw (d, eq-eqb h g e)) | inr e ↦ inl (rw (d, ne-eqb h g e)) ]
+              | inr d ↦ inr (rw d)
             ],
           );
       page-ok = λ h v x r a.
@@ -220,18 +184,18 @@ module _ (g : ℕ) where
             b .1,
             elim (b .2) [
               | inl d ↦ elim (eq? h g) [ inl e ↦ inr (may-drains h (b .0) r e d) | inr e ↦ inl (may-keep h (b .0) r e d) ]
-              | inr d ↦ inr (drained-draining-page (s .kind (b .0)) h d)
+              | inr d ↦ inr (rw d)
             ],
           );
       table-now = λ h n p x d a.
-          let z = clean-still h d in
+          let z = upd-not (s .dirty) g true false h true≢false d in
           let b = q .table-now h n p x (z .1) a in
-          (b .0, b .1, drained-other (s .kind (b .0)) h n p (z .0) (b .2));
+          (b .0, b .1, rw (b .2, ne-eqb h g (z .0)));
       page-now = λ h v x r d a.
-          let z = clean-still h d in
+          let z = upd-not (s .dirty) g true false h true≢false d in
           let b = q .page-now h v x r (z .1) a in
           let m = b .2 in
-          (b .0, b .1, (m .0, drained-other (s .kind (m .0)) h 0 (v / 512) (z .0) (m .1), m .2));
+          (b .0, b .1, (m .0, rw (m .1, ne-eqb h g (z .0)), m .2));
     }
 
 pub destroy-good : (s : State) (c : Core s) (k : Caches) (q : Kept s k) (g : ℕ) → Good k (destroy s g)

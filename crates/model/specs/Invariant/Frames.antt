@@ -1,23 +1,20 @@
 -- How many free frames map needs, takes and finds missing.
-use mathlib.Core.Path.{_≡_, refl, sym, ap, _∙_}
+use mathlib.Core.Path.{_≡_, refl}
 use mathlib.Core.Bool.{Bool, true, false, not}
-use mathlib.Core.Logic.{_⊎_, inl, inr}
-use Prim.Native.Nat.{ℕ, zero, suc, _+_, _*_, _≤_, _<_, _/_, _%_}
+use Prim.Native.Nat.{ℕ, zero, suc, _+_, _≤_, _<_, _/_}
 use native.Mathlib.Omega.{arith}
-use native.Mathlib.Nat.{div-add-mod'}
+use native.Mathlib.Nat.{add-zero}
 use lib.Dec.{ltb, leb}
 use borrow.Author.Tests.{leb-true, leb-false}
-use Rattle.model.specs.Base.{bool?, upd-same}
 use Rattle.model.specs.State.{State, table, free-frames}
 use Rattle.model.specs.Entry.{Entry, empty, to-table, to-page, other}
 use Rattle.model.specs.Translate.{upper, index, entry-at, into, missing-from, missing, mapped}
-use Rattle.model.specs.Changes.{Choice, with-table, Grown, grow, with-page, with-mapping}
+use Rattle.model.specs.Changes.{Choice, grow, with-page, with-mapping}
 use Rattle.model.specs.Operations.{Out, refuse, done, check, page-address, is-rights, may-map, map}
 use Rattle.model.specs.Invariant.Core.{Core}
-use Rattle.model.specs.Invariant.Way.{root-serves, step-kind}
-use Rattle.model.specs.Invariant.NewTable.{linked-new, linked-core}
-use Rattle.model.specs.Invariant.Choice.{first-free, fewer, rest-chosen}
-use Rattle.model.specs.Invariant.Grow.{zero-missing}
+use Rattle.model.specs.Invariant.Way.{root-serves}
+use Rattle.model.specs.Invariant.Choice.{fewer}
+use Rattle.model.specs.Invariant.Grow.{Links, linked, grow-by}
 use Rattle.model.specs.Invariant.MapUnmap.{address-low}
 use Rattle.model.specs.Invariant.Answer.{Then, then-done, checked}
 
@@ -32,40 +29,20 @@ missing-low s (suc h) t v = go (missing-low s h) (entry-at s t (index (suc h) v)
     go ih (to-page f r) = omega arith
     go ih (other x) = omega arith
 
-grow-takes : (h : ℕ) (s : State) (c : Core s) (g t v : ℕ) (pick : ℕ → ℕ) → Choice s pick → missing-from s h t v ≤ free-frames s → s .kind t ≡ table g h (upper (suc h) v) →
-    free-frames (grow h s g t v pick .state) + missing-from s h t v ≡ free-frames s
-unfolding grow missing-from upper
-grow-takes zero s c g t v pick ch m a = omega arith
-grow-takes (suc h) s c g t v pick ch m a = at (grow-takes h) (entry-at s t i) refl m
-  where
-    IH : Type 0
-    IH = (s : State) (c : Core s) (g t v : ℕ) (pick : ℕ → ℕ) → Choice s pick → missing-from s h t v ≤ free-frames s → s .kind t ≡ table g h (upper (suc h) v) →
-        free-frames (grow h s g t v pick .state) + missing-from s h t v ≡ free-frames s
+abbrev Takes : (h : ℕ) (s : State) (g t v : ℕ) (pick : ℕ → ℕ) → Type 0
+Takes h s g t v pick = free-frames (grow h s g t v pick .state) + missing-from s h t v ≡ free-frames s
 
-    i : ℕ
-    i = index (suc h) v
+takes-made : (h : ℕ) (s : State) (g t v : ℕ) (pick : ℕ → ℕ) → Links h s g t v pick → Takes h (linked h s g t v pick) g (pick 0) v (λ j. pick (suc j)) → Takes (suc h) s g t v pick
+unfolding grow missing-from
+takes-made h s g t v pick x e =
+    let l = x .enough in
+    let n = x .all-missing in
+    let less = fewer s (x .core) pick (x .chosen) (omega arith) t (index (suc h) v) g h (upper (suc h) v) in
+    rw (x .was) (omega arith)
 
-    New : Grown
-    New = grow h (with-table s t i (pick 0) g h (upper (suc h) v)) g (pick 0) v (λ j. pick (suc j))
-
-    new : IH → entry-at s t i ≡ empty → suc h ≤ free-frames s → free-frames (New .state) + suc h ≡ free-frames s
-    new ih w l =
-        let some : 0 < free-frames s = omega arith in
-        let f = first-free s c pick ch some in
-        let z = div-add-mod' (upper (suc h) v) 512 in
-        let zeros = linked-new s c t i (pick 0) g h (upper (suc (suc h)) v) (upper (suc h) v) a (omega arith) w z f (pick 0) refl in
-        let n = zero-missing (with-table s t i (pick 0) g h (upper (suc h) v)) (pick 0) zeros h v in
-        let less = fewer s c pick ch some t i g h (upper (suc h) v) in
-        let b = ih (with-table s t i (pick 0) g h (upper (suc h) v)) (linked-core s c t i (pick 0) g h (upper (suc (suc h)) v) (upper (suc h) v) a (omega arith) w z f) g (pick 0) v (λ j. pick (suc j))
-        (rest-chosen s c pick ch some t i g h (upper (suc h) v)) (rw n (omega arith)) (unfold with-table in upd-same (s .kind) (pick 0) (table g h (upper (suc h) v))) in
-        omega arith
-
-    at : IH → (x : Entry) → entry-at s t i ≡ x → into x (suc h) (λ t′. missing-from s h t′ v) ≤ free-frames s →
-        free-frames (into x New (λ t′. grow h s g t′ v pick) .state) + into x (suc h) (λ t′. missing-from s h t′ v) ≡ free-frames s
-    at ih empty e m = new ih e m
-    at ih (to-table t′) e m = ih s c g t′ v pick ch m (step-kind s c g h t v t′ a e)
-    at ih (to-page f r) e m = absurd (rw e at (c .tables t g (suc h) (upper (suc (suc h)) v) a i (omega arith)))
-    at ih (other x) e m = absurd (rw e at (c .tables t g (suc h) (upper (suc (suc h)) v) a i (omega arith)))
+grow-takes : (h : ℕ) (s : State) → Core s → (g t v : ℕ) (pick : ℕ → ℕ) → Choice s pick → missing-from s h t v ≤ free-frames s → s .kind t ≡ table g h (upper (suc h) v) → Takes h s g t v pick
+unfolding grow missing-from
+grow-takes = grow-by Takes (λ s c g t v pick a. add-zero (free-frames s)) (λ h s c g t v pick a t′ w e. rw w e) takes-made
 
 pub map-takes : (s : State) (c : Core s) (f g a r : ℕ) (pick : ℕ → ℕ) → Choice s pick → Then (λ s′. free-frames s′ + missing s g (a / 4096) ≡ free-frames s) (map s f g a r pick)
 unfolding map with-mapping with-page free-frames

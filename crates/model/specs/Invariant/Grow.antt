@@ -12,7 +12,7 @@ use Rattle.model.specs.State.{State, Kind, free, table, free-frames}
 use Rattle.model.specs.Entry.{Entry, empty, to-table, to-page, other, entry}
 use Rattle.model.specs.EntryLaws.{entry-empty}
 use Rattle.model.specs.Translate.{upper, index, entry-at, into, descend, missing-from, Page, page-in, page-at}
-use Rattle.model.specs.Changes.{Choice, with-table, Grown, grow}
+use Rattle.model.specs.Changes.{Choice, with-table, grow}
 use Rattle.model.specs.Cache.{Caches}
 use Rattle.model.specs.Invariant.Kinds.{sort, clash}
 use Rattle.model.specs.Invariant.Core.{May, Core, Kept}
@@ -34,6 +34,53 @@ pub zero-missing : (s : State) (t : ℕ) → ((j : ℕ) → s .word t j ≡ 0) �
 unfolding missing-from
 zero-missing s t z zero v = refl
 zero-missing s t z (suc h) v = rw (z (index (suc h) v), entry-empty (s .first))
+
+-- the table that is missing below t, of height h + 1, on the way to v, is linked in; and what is known where that is done
+abbrev pub linked : (h : ℕ) → State → (g t v : ℕ) → (ℕ → ℕ) → State
+linked h s g t v pick = with-table s t (index (suc h) v) (pick 0) g h (upper (suc h) v)
+
+pub record Links (h : ℕ) (s : State) (g t v : ℕ) (pick : ℕ → ℕ) : Type 0 where
+  pub core : Core s
+  pub chosen : Choice s pick
+  pub enough : suc h ≤ free-frames s
+  pub above : s .kind t ≡ table g (suc h) (upper (suc (suc h)) v)
+  pub was : entry-at s t (index (suc h) v) ≡ empty
+  pub range : upper (suc (suc h)) v * 512 + index (suc h) v ≡ upper (suc h) v
+  pub spare : s .kind (pick 0) ≡ free
+  pub all-missing : missing-from (linked h s g t v pick) h (pick 0) v ≡ h
+
+-- Induction over the tables that map finds and makes: the last, one that is there, one that is made.
+module _ {ℓ} (P : (h : ℕ) (s : State) (g t v : ℕ) (pick : ℕ → ℕ) → Type ℓ)
+    (last : (s : State) → Core s → (g t v : ℕ) (pick : ℕ → ℕ) → s .kind t ≡ table g 0 (v / 512) → P 0 s g t v pick)
+    (there : (h : ℕ) (s : State) → Core s → (g t v : ℕ) (pick : ℕ → ℕ) → s .kind t ≡ table g (suc h) (upper (suc (suc h)) v) → (t′ : ℕ) → entry-at s t (index (suc h) v) ≡ to-table t′ → P h s g t′ v pick → P (suc h) s g t v pick)
+    (made : (h : ℕ) (s : State) (g t v : ℕ) (pick : ℕ → ℕ) → Links h s g t v pick → P h (linked h s g t v pick) g (pick 0) v (λ j. pick (suc j)) → P (suc h) s g t v pick) where
+  pub grow-by : (h : ℕ) (s : State) → Core s → (g t v : ℕ) (pick : ℕ → ℕ) → Choice s pick → missing-from s h t v ≤ free-frames s → s .kind t ≡ table g h (upper (suc h) v) → P h s g t v pick
+  unfolding upper
+  grow-by zero s c g t v pick ch m a = last s c g t v pick a
+  grow-by (suc h) s c g t v pick ch m a = at (grow-by h) (entry-at s t i) refl (unfold missing-from in m)
+    where
+      IH : Type ℓ
+      IH = (s : State) → Core s → (g t v : ℕ) (pick : ℕ → ℕ) → Choice s pick → missing-from s h t v ≤ free-frames s → s .kind t ≡ table g h (upper (suc h) v) → P h s g t v pick
+
+      i : ℕ
+      i = index (suc h) v
+
+      new : IH → entry-at s t i ≡ empty → suc h ≤ free-frames s → P (suc h) s g t v pick
+      new ih w l =
+          let some : 0 < free-frames s = omega arith in
+          let f = first-free s c pick ch some in
+          let z = div-add-mod' (upper (suc h) v) 512 in
+          let c′ = linked-core s c t i (pick 0) g h (upper (suc (suc h)) v) (upper (suc h) v) a (omega arith) w z f in
+          let n = zero-missing (linked h s g t v pick) (pick 0) (linked-new s c t i (pick 0) g h (upper (suc (suc h)) v) (upper (suc h) v) a (omega arith) w z f (pick 0) refl) h v in
+          let less = fewer s c pick ch some t i g h (upper (suc h) v) in
+          made h s g t v pick (record { core = c; chosen = ch; enough = l; above = a; was = w; range = z; spare = f; all-missing = n })
+          (ih (linked h s g t v pick) c′ g (pick 0) v (λ j. pick (suc j)) (rest-chosen s c pick ch some t i g h (upper (suc h) v)) (rw n (omega arith)) (unfold with-table in upd-same (s .kind) (pick 0) (table g h (upper (suc h) v))))
+
+      at : IH → (e : Entry) → entry-at s t i ≡ e → into e (suc h) (λ t′. missing-from s h t′ v) ≤ free-frames s → P (suc h) s g t v pick
+      at ih empty e m = new ih e m
+      at ih (to-table t′) e m = there h s c g t v pick a t′ e (ih s c g t′ v pick ch m (step-kind s c g h t v t′ a e))
+      at ih (to-page f r) e m = absurd (rw e at (c .tables t g (suc h) (upper (suc (suc h)) v) a i (omega arith)))
+      at ih (other x) e m = absurd (rw e at (c .tables t g (suc h) (upper (suc (suc h)) v) a i (omega arith)))
 
 -- from s to s′: tables on the way to v, below t of height h, are made
 pub record Grew (k : Caches) (s : State) (h g t v : ℕ) (s′ : State) (u : ℕ) : Type 0 where
@@ -139,81 +186,67 @@ module _ (s : State) (c : Core s) (t i t′ g h p q : ℕ) (ht : s .kind t ≡ t
       notnew : (f : ℕ) (x : Kind) → s .kind f ≡ x → eqb 1 (sort x) ≡ false → f ≡ t′ → ⊥
       notnew f x a z e = clash {x = free} {y = x} (sym hf ∙ ap (s .kind) (sym e) ∙ a) z
 
-pub grow-grew : (h : ℕ) (s : State) (c : Core s) (k : Caches) (q : Kept s k) (g t v : ℕ) (pick : ℕ → ℕ) → Choice s pick → missing-from s h t v ≤ free-frames s →
-    s .kind t ≡ table g h (upper (suc h) v) → Grew k s h g t v (grow h s g t v pick .state) (grow h s g t v pick .last)
-unfolding grow upper descend
-grow-grew zero s c k q g t v pick ch m a = record {
-  core = c;
-  kept = q;
-  last = a;
-  may = λ g′ f r m. m;
-  root = refl;
-  exists = refl;
-  first = refl;
-  size = refl;
-  shared = refl;
-  count = refl;
-  dirty = refl;
-  kinds = λ f x a z. a;
-  from = λ f x a. inl a;
-  words = λ f x a z y i. refl;
-  above = λ x g′ n p j l a. refl;
-  way = refl;
-  moves = λ g′ n x v′ a. refl;
-}
-grow-grew (suc h) s c k q g t v pick ch m a = at (λ s c q. grow-grew h s c k q g) (entry-at s t i) refl (unfold missing-from in m)
-  where
-    IH : Type 0
-    IH = (s : State) (c : Core s) (q : Kept s k) (t v : ℕ) (pick : ℕ → ℕ) → Choice s pick → missing-from s h t v ≤ free-frames s →
-        s .kind t ≡ table g h (upper (suc h) v) → Grew k s h g t v (grow h s g t v pick .state) (grow h s g t v pick .last)
+module _ (k : Caches) where
+  abbrev Grows : (h : ℕ) (s : State) (g t v : ℕ) (pick : ℕ → ℕ) → Type 0
+  Grows h s g t v pick = Kept s k → Grew k s h g t v (grow h s g t v pick .state) (grow h s g t v pick .last)
 
-    i : ℕ
-    i = index (suc h) v
+  grew-last : (s : State) → Core s → (g t v : ℕ) (pick : ℕ → ℕ) → s .kind t ≡ table g 0 (v / 512) → Grows 0 s g t v pick
+  unfolding grow descend
+  grew-last s c g t v pick a q = record {
+    core = c;
+    kept = q;
+    last = a;
+    may = λ g′ f r m. m;
+    root = refl;
+    exists = refl;
+    first = refl;
+    size = refl;
+    shared = refl;
+    count = refl;
+    dirty = refl;
+    kinds = λ f x a z. a;
+    from = λ f x a. inl a;
+    words = λ f x a z y i. refl;
+    above = λ x g′ n p j l a. refl;
+    way = refl;
+    moves = λ g′ n x v′ a. refl;
+  }
 
-    New : Grown
-    New = grow h (with-table s t i (pick 0) g h (upper (suc h) v)) g (pick 0) v (λ j. pick (suc j))
+  -- a table that is there changes nothing
+  lifted : (h : ℕ) (s : State) (g t v : ℕ) → s .kind t ≡ table g (suc h) (upper (suc (suc h)) v) → (t′ : ℕ) → entry-at s t (index (suc h) v) ≡ to-table t′ → (s′ : State) (u : ℕ) → Grew k s h g t′ v s′ u → Grew k s (suc h) g t v s′ u
+  unfolding descend
+  lifted h s g t v a t′ w s′ u e = record {
+    core = e .core;
+    kept = e .kept;
+    last = e .last;
+    may = e .may;
+    root = e .root;
+    exists = e .exists;
+    first = e .first;
+    size = e .size;
+    shared = e .shared;
+    count = e .count;
+    dirty = e .dirty;
+    kinds = e .kinds;
+    from = e .from;
+    words = e .words;
+    above = λ x g′ n p j l a. e .above x g′ n p j (omega arith) a;
+    way =
+        let x : entry-at s′ t (index (suc h) v) ≡ to-table t′ =
+        ap (λ (z : ℕ). entry z (s′ .word t (index (suc h) v))) (e .first) ∙ ap (entry (s .first)) (e .above t g (suc h) (upper (suc (suc h)) v) (index (suc h) v) (omega arith) a) ∙ w in
+        rw x (e .way);
+    moves = e .moves;
+  }
 
-    lift : (t′ : ℕ) → entry-at s t i ≡ to-table t′ → (s′ : State) (u : ℕ) → Grew k s h g t′ v s′ u → Grew k s (suc h) g t v s′ u
-    lift t′ w s′ u e = record {
-      core = e .core;
-      kept = e .kept;
-      last = e .last;
-      may = e .may;
-      root = e .root;
-      exists = e .exists;
-      first = e .first;
-      size = e .size;
-      shared = e .shared;
-      count = e .count;
-      dirty = e .dirty;
-      kinds = e .kinds;
-      from = e .from;
-      words = e .words;
-      above = λ x g′ n p j l a. e .above x g′ n p j (omega arith) a;
-      way =
-          let x : entry-at s′ t i ≡ to-table t′ = ap (λ (z : ℕ). entry z (s′ .word t i)) (e .first) ∙ ap (entry (s .first)) (e .above t g (suc h) (upper (suc (suc h)) v) i (omega arith) a) ∙ w in
-          rw x (e .way);
-      moves = e .moves;
-    }
+  grew-there : (h : ℕ) (s : State) → Core s → (g t v : ℕ) (pick : ℕ → ℕ) → s .kind t ≡ table g (suc h) (upper (suc (suc h)) v) → (t′ : ℕ) → entry-at s t (index (suc h) v) ≡ to-table t′ → Grows h s g t′ v pick → Grows (suc h) s g t v pick
+  unfolding grow
+  grew-there h s c g t v pick a t′ w e q = rw w (lifted h s g t v a t′ w (grow h s g t′ v pick .state) (grow h s g t′ v pick .last) (e q))
 
-    new : IH → entry-at s t i ≡ empty → suc h ≤ free-frames s → Grew k s (suc h) g t v (New .state) (New .last)
-    new ih w l =
-        let some : 0 < free-frames s = omega arith in
-        let f = first-free s c pick ch some in
-        let z = div-add-mod' (upper (suc h) v) 512 in
-        let zeros = linked-new s c t i (pick 0) g h (upper (suc (suc h)) v) (upper (suc h) v) a (omega arith) w z f (pick 0) refl in
-        let n = zero-missing (with-table s t i (pick 0) g h (upper (suc h) v)) (pick 0) zeros h v in
-        let less = fewer s c pick ch some t i g h (upper (suc h) v) in
-        grew-below s c t i (pick 0) g h (upper (suc (suc h)) v) (upper (suc h) v) a (omega arith) w z f k v refl (New .state) (New .last)
-        (ih (with-table s t i (pick 0) g h (upper (suc h) v))
-        (linked-core s c t i (pick 0) g h (upper (suc (suc h)) v) (upper (suc h) v) a (omega arith) w z f)
-        (linked-kept s c t i (pick 0) g h (upper (suc (suc h)) v) (upper (suc h) v) a (omega arith) w z f k q)
-        (pick 0) v (λ j. pick (suc j)) (rest-chosen s c pick ch some t i g h (upper (suc h) v)) (rw n (omega arith))
-        (unfold with-table in upd-same (s .kind) (pick 0) (table g h (upper (suc h) v))))
+  grew-made : (h : ℕ) (s : State) (g t v : ℕ) (pick : ℕ → ℕ) → Links h s g t v pick → Grows h (linked h s g t v pick) g (pick 0) v (λ j. pick (suc j)) → Grows (suc h) s g t v pick
+  unfolding grow
+  grew-made h s g t v pick x e q = let i = index (suc h) v in let new = grow h (linked h s g t v pick) g (pick 0) v (λ j. pick (suc j)) in
+      rw (x .was) (grew-below s (x .core) t i (pick 0) g h (upper (suc (suc h)) v) (upper (suc h) v) (x .above) (omega arith) (x .was) (x .range) (x .spare) k v refl (new .state) (new .last)
+      (e (linked-kept s (x .core) t i (pick 0) g h (upper (suc (suc h)) v) (upper (suc h) v) (x .above) (omega arith) (x .was) (x .range) (x .spare) k q)))
 
-    at : IH → (e : Entry) → entry-at s t i ≡ e → into e (suc h) (λ t′. missing-from s h t′ v) ≤ free-frames s →
-        Grew k s (suc h) g t v (into e New (λ t′. grow h s g t′ v pick) .state) (into e New (λ t′. grow h s g t′ v pick) .last)
-    at ih empty e m = new ih e m
-    at ih (to-table t′) e m = lift t′ e (grow h s g t′ v pick .state) (grow h s g t′ v pick .last) (ih s c q t′ v pick ch m (step-kind s c g h t v t′ a e))
-    at ih (to-page f r) e m = absurd (rw e at (c .tables t g (suc h) (upper (suc (suc h)) v) a i (omega arith)))
-    at ih (other x) e m = absurd (rw e at (c .tables t g (suc h) (upper (suc (suc h)) v) a i (omega arith)))
+  pub grow-grew : (h : ℕ) (s : State) → Core s → (g t v : ℕ) (pick : ℕ → ℕ) → Choice s pick → missing-from s h t v ≤ free-frames s → s .kind t ≡ table g h (upper (suc h) v) → Grows h s g t v pick
+  grow-grew = grow-by Grows grew-last grew-there grew-made

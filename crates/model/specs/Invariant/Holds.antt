@@ -2,7 +2,7 @@
 use mathlib.Core.Path.{_≡_, refl, sym}
 use mathlib.Core.Bool.{true≢false, Bool, true, false, _&&_, _||_, cond}
 use mathlib.Core.Logic.{_⊎_}
-use Prim.Native.Nat.{ℕ, _+_, _*_, _≤_, _/_, _%_}
+use Prim.Native.Nat.{ℕ, _+_, _*_, _≤_, _<_, _/_, _%_}
 use native.Mathlib.Omega.{arith}
 use lib.Dec.{eqb, ltb, leb}
 use borrow.Author.Tests.{le-leb, leb-true}
@@ -14,7 +14,7 @@ use Rattle.model.specs.Cache.{Caches, nothing-kept, Access, writing, gra
 use Rattle.model.specs.Machine.{Machine, Operation, Create, Give, Take, Map, Unmap, Share, Unshare, Destroy, Invalidated, answer, Chooses, keeps, settle, call, stored, write, Step, calls, stores, Run, stop, then, SetUp}
 use Rattle.model.specs.Invariant.Kinds.{sort, clash}
 use Rattle.model.specs.Invariant.Core.{May, hit, places, Core, Kept}
-use Rattle.model.specs.Invariant.Answer.{then-done, Good}
+use Rattle.model.specs.Invariant.Answer.{Then, then-done, Good}
 use Rattle.model.specs.Invariant.GiveTake.{give-good, take-good}
 use Rattle.model.specs.Invariant.Share.{share-good, unshare-good}
 use Rattle.model.specs.Invariant.MapUnmap.{map-good, unmap-good}
@@ -74,6 +74,27 @@ step-holds (stores {m} g f o x e l n b a) h = record { core = core; kept = grown
 pub run-holds : {m z : Machine} → Run m z → Holds m → Holds z
 run-holds stop h = h
 run-holds (then x y) h = run-holds y (step-holds x h)
+
+-- a property of the state that every answer keeps, and every store of a guest
+abbrev pub Answers-keep : (State → Type 0) → Type 0
+Answers-keep P = (s : State) → Core s → P s → (o : Operation) → Chooses s o → Then P (answer s o)
+
+abbrev pub Stores-keep : (State → Type 0) → Type 1
+Stores-keep P = (m : Machine) → Holds m → P (m .state) → (g f o x : ℕ) → o < 4096 → x < 256 → Reach (m .state) (m .caches) g writing ((m .state .first + f) * 4096 + o) → P (stored (m .state) f o x)
+
+module _ (P : State → Type 0) (answered : Answers-keep P) (written : Stores-keep P) where
+  step-keeps : {m m′ : Machine} → Step m m′ → Holds m → P (m .state) → P (m′ .state)
+  unfolding call settle write
+  step-keeps (calls {m} o ch) h p = go (answer (m .state) o) (answered (m .state) (h .core) p o ch)
+    where
+      go : (x : Out) → Then P x → P (settle m (keeps (m .caches) o) x .state)
+      go (refuse n) t = p
+      go (done s) (then-done t) = t
+  step-keeps (stores {m} g f o x e l n b a) h p = written m h p g f o x n b a
+
+  pub run-keeps : {m z : Machine} → Run m z → Holds m → P (m .state) → P (z .state)
+  run-keeps stop h p = p
+  run-keeps (then x y) h p = run-keeps y (step-holds x h) (step-keeps x h p)
 
 -- set-up: nobody is there
 module _ (n k : ℕ) where

@@ -11,30 +11,16 @@ use Rattle.model.specs.Base.{lt?, and-true, sum}
 use Rattle.model.specs.State.{State, Kind, monitor, free, table, draining-table, page, draining-page, pages}
 use Rattle.model.specs.Entry.{Entry, empty, to-table, to-page, other}
 use Rattle.model.specs.Translate.{entry-at, leaf, translate}
-use Rattle.model.specs.Operations.{Out, refuse, done, check, started, set-up}
+use Rattle.model.specs.Operations.{done, check, started, set-up}
 use Rattle.model.specs.Cache.{Access, writing, Caches, Reach}
-use Rattle.model.specs.Machine.{Machine, answer, keeps, settle, call, write, Step, calls, stores, Run, stop, then, SetUp}
+use Rattle.model.specs.Machine.{Machine, Run, SetUp}
 use Rattle.model.specs.Invariant.Core.{is-last, leads, hit, places, Core, Kept, low}
 use Rattle.model.specs.Invariant.Counts.{places-zero}
 use Rattle.model.specs.Invariant.Way.{leaf-kind, leaf-there, translate-from, translate-at}
 use Rattle.model.specs.Invariant.Found.{page-found-now}
-use Rattle.model.specs.Invariant.Answer.{Then, then-done}
-use Rattle.model.specs.Invariant.Holds.{Holds, step-holds, set-up-holds, neither}
+use Rattle.model.specs.Invariant.Holds.{Stores-keep, run-keeps, set-up-holds, neither}
 use Rattle.model.specs.Invariant.Allowed.{frame-allowed, not-allowed}
 use Rattle.model.specs.Invariant.Linked.{Linked, answer-linked, stored-linked, comes-there}
-
-step-linked : {m m′ : Machine} → Step m m′ → Holds m → Linked (m .state) → Linked (m′ .state)
-unfolding call settle write
-step-linked (calls {m} o ch) h l = go (answer (m .state) o) (answer-linked (m .state) (h .core) l o ch)
-  where
-    go : (x : Out) → Then Linked x → Linked (settle m (keeps (m .caches) o) x .state)
-    go (refuse n) t = l
-    go (done s) (then-done t) = t
-step-linked (stores {m} g f o x e n b d a) h l = stored-linked (m .state) l f o x (λ g′ h′ p k. not-allowed (m .state) g f writing (table g′ h′ p) k refl refl (frame-allowed h g writing ((m .state .first + f) * 4096 + o) f (omega arith) a))
-
-run-linked : {m z : Machine} → Run m z → Holds m → Linked (m .state) → Linked (z .state)
-run-linked stop h l = l
-run-linked (then x y) h l = run-linked y (step-holds x h) (step-linked x h l)
 
 pub set-up-linked : (fits : Bool) (n b k : ℕ) (w : ℕ → ℕ → ℕ) (s : State) → set-up fits n b k w ≡ done s → Linked s
 unfolding set-up check started
@@ -45,7 +31,10 @@ set-up-linked fits n b k w s e = go (fits && leb 16 n && leb n 65536 && eqb (b %
     go false e = let z : _≡_ {A = ℕ} 0 1 = cc in absurd (omega arith)
 
 pub hung : {m z : Machine} → SetUp m → Run m z → Linked (z .state)
-hung {m} x r = run-linked r (set-up-holds x) (set-up-linked true (x .n) (x .b) (x .k) (x .word) (m .state) (x .accepted))
+hung {m} x r = run-keeps Linked answer-linked written r (set-up-holds x) (set-up-linked true (x .n) (x .b) (x .k) (x .word) (m .state) (x .accepted))
+  where
+    written : Stores-keep Linked
+    written m h l g f o x n b a = stored-linked (m .state) l f o x (λ g′ h′ p k. not-allowed (m .state) g f writing (table g′ h′ p) k refl refl (frame-allowed h g writing ((m .state .first + f) * 4096 + o) f (omega arith) a))
 
 module _ (s : State) (c : Core s) where
   -- nothing counted, nothing translates to it
@@ -122,7 +111,7 @@ module _ (s : State) (c : Core s) where
       (a .0, d .0, b .0, d .1, b .1, d .2, d .3)
 
 module _ (s : State) (c : Core s) (l : Linked s) where
-  -- tables serve addresses below 2^48
+  -- tables serve pages below 2^36
   abbrev Below : (d p : ℕ) → Type 0
   Below zero p = p ≡ 0
   Below (suc d) p = Below d (p / 512)
@@ -137,15 +126,25 @@ module _ (s : State) (c : Core s) (l : Linked s) where
     | inr x ↦ below d (suc h) (x .0) g (p / 512) (omega arith) (x .1)
   ]
 
+  pub last-low : (t g v : ℕ) → s .kind t ≡ table g 0 (v / 512) → v < pages
+  last-low t g v k = let z : v / 512 / 512 / 512 / 512 ≡ 0 = below 3 0 t g (v / 512) (omega arith) k in omega arith
+
+  -- a last table is where the way to its pages leads
+  last-leaf : (t g v : ℕ) → s .kind t ≡ table g 0 (v / 512) → leaf s g v ≡ some t
+  last-leaf t g v k = leaf-there s c g v (c .table-exists t g 0 (v / 512) k) ∙ comes-there s c l g v t k
+
+  -- so an entry of it is what its page translates to
+  pub entry-translates : (t g v f r : ℕ) → s .kind t ≡ table g 0 (v / 512) → entry-at s t (v % 512) ≡ to-page f r → translate s g v ≡ some (f, r)
+  entry-translates t g v f r k e = translate-at s g v t f r (last-leaf t g v k) e
+
   -- what is counted translates somewhere
   pub mapped-somewhere : (f g : ℕ) → 0 < s .count f g → (v r t : ℕ) × (v < pages) × (s .exists g ≡ true) × (leaf s g v ≡ some t) × (translate s g v ≡ some (f, r))
   mapped-somewhere f g n =
       let a = counted s c f g n in
       let t = a .0 in let p = a .1 in let i = a .2 in let r = a .3 in
       let li = a .4 in
-      let low : p / 512 / 512 / 512 ≡ 0 = below 3 0 t g p (omega arith) (a .5) in
+      let v = p * 512 + i in
       let up : (p * 512 + i) / 512 ≡ p = omega arith in
       let ix : (p * 512 + i) % 512 ≡ i = omega arith in
-      let e = c .table-exists t g 0 p (a .5) in
-      let w = leaf-there s c g (p * 512 + i) e ∙ comes-there s c l g (p * 512 + i) t (rw up (a .5)) in
-      (p * 512 + i, r, t, omega arith, e, w, translate-at s g (p * 512 + i) t f r w (rw ix (a .6)))
+      let k : s .kind t ≡ table g 0 (v / 512) = rw up (a .5) in
+      (v, r, t, last-low t g v k, c .table-exists t g 0 p (a .5), last-leaf t g v k, entry-translates t g v f r k (rw ix (a .6)))

@@ -2,7 +2,7 @@
 use mathlib.Core.Path.{_≡_, refl, sym, _∙_}
 use mathlib.Core.Bool.{false}
 use mathlib.Core.Logic.{_⊎_, inl, inr}
-use Prim.Native.Nat.{ℕ, _+_, _*_, _/_}
+use Prim.Native.Nat.{ℕ, _+_, _*_}
 use lib.Dec.{eqb}
 use borrow.Author.Tests.{eq-eqb, ne-eqb}
 use Rattle.model.specs.Base.{bool?, upd-other}
@@ -18,30 +18,6 @@ use Rattle.model.specs.Invariant.Counts.{places-cong}
 use Rattle.model.specs.Invariant.Answer.{Good, then-done, checked}
 
 module _ (g : ℕ) where
-  pub keep-draining-table : (x : Kind) (h n p : ℕ) → (h ≡ g → ⊥) → x ≡ draining-table h n p → released g x ≡ draining-table h n p
-  unfolding released
-  keep-draining-table x h n p ne e = rw (e, ne-eqb h g ne)
-
-  pub keep-draining-page : (x : Kind) (h : ℕ) → (h ≡ g → ⊥) → x ≡ draining-page h → released g x ≡ draining-page h
-  unfolding released
-  keep-draining-page x h ne e = rw (e, ne-eqb h g ne)
-
-  pub keep-table : (x : Kind) (h n p : ℕ) → x ≡ table h n p → released g x ≡ table h n p
-  unfolding released
-  keep-table x h n p e = rw e
-
-  pub keep-page : (x : Kind) (h : ℕ) → x ≡ page h → released g x ≡ page h
-  unfolding released
-  keep-page x h e = rw e
-
-  pub keep-monitor : (x : Kind) → x ≡ monitor → released g x ≡ monitor
-  unfolding released
-  keep-monitor x e = rw e
-
-  pub keep-free : (x : Kind) → x ≡ free → released g x ≡ free
-  unfolding released
-  keep-free x e = rw e
-
   -- a frame stays what it is, or is let go
   pub stays-or-free : (x : Kind) → (released g x ≡ x) ⊎ (released g x ≡ free)
   unfolding released
@@ -72,23 +48,23 @@ module _ (g : ℕ) where
 
   module _ (s : State) (c : Core s) where
     keep-may : (h f r : ℕ) → May s h f r → May (clean s g) h f r
-    unfolding clean
-    keep-may h f r (inl a) = inl (keep-page (s .kind f) h a)
-    keep-may h f r (inr a) = inr (a .0, keep-page (s .kind f) (a .0) (a .1), a .2)
+    unfolding clean released
+    keep-may h f r (inl a) = inl (rw a)
+    keep-may h f r (inr a) = inr (a .0, rw (a .1), a .2)
 
     pub clean-core : Core (clean s g)
-    unfolding clean
+    unfolding clean released
     clean-core = record {
       room = c .room;
-      beyond = λ t l. keep-monitor (s .kind t) (c .beyond t l);
+      beyond = λ t l. rw (c .beyond t l);
       table-exists = λ t h n p a. c .table-exists t h n p (released-from (s .kind t) (table h n p) a refl);
-      tables = λ t h n p a i l. fits-keep (s .kind) (λ f. released g (s .kind f)) (May s) (May (clean s g)) h (λ t n p b. keep-table (s .kind t) h n p b) n (p * 512 + i) (entry-at s t i)
+      tables = λ t h n p a i l. fits-keep (s .kind) (λ f. released g (s .kind f)) (May s) (May (clean s g)) h (λ t n p b. rw b) n (p * 512 + i) (entry-at s t i)
           (λ f r z e m. keep-may h f r m) (c .tables t h n p (released-from (s .kind t) (table h n p) a refl) i l);
       draining = λ t h n p a i l.
           let ne = not-mine (s .kind t) h n p a in
-          stale-keep (s .kind) (λ f. released g (s .kind f)) h (λ t n p b. keep-draining-table (s .kind t) h n p ne b) (λ f b. keep-draining-page (s .kind f) h ne b) n (p * 512 + i) (entry-at s t i)
+          stale-keep (s .kind) (λ f. released g (s .kind f)) h (λ t n p b. rw (b, ne-eqb h g ne)) (λ f b. rw (b, ne-eqb h g ne)) n (p * 512 + i) (entry-at s t i)
           (c .draining t h n p (released-from (s .kind t) (draining-table h n p) a refl) i l);
-      roots = λ h l. keep-table (s .kind (s .root h)) h 3 0 (c .roots h l);
+      roots = λ h l. rw (c .roots h l);
       page-exists = λ f h a. c .page-exists f h (released-from (s .kind f) (page h) a refl);
       strangers = λ f o h a l. c .strangers f o h (released-from (s .kind f) (page o) a refl) l;
       guests-only = c .guests-only;
@@ -96,19 +72,19 @@ module _ (g : ℕ) where
     }
 
     pub clean-kept : (k : Caches) → Kept s k → Kept (clean s g) (forget k g)
-    unfolding clean forget
+    unfolding clean released forget
     clean-kept k q = record {
       table-ok = λ h n p x a.
           let b = q .table-ok h n p x (a .1) in
-          (b .0, b .1, elim (b .2) [ inl d ↦ inl (keep-table (s .kind (b .0)) h n p d) | inr d ↦ inr (keep-draining-table (s .kind (b .0)) h n p (a .0) d) ]);
+          (b .0, b .1, elim (b .2) [ inl d ↦ inl (rw d) | inr d ↦ inr (rw (d, ne-eqb h g (a .0))) ]);
       page-ok = λ h v x r a.
           let b = q .page-ok h v x r (a .1) in
-          (b .0, b .1, elim (b .2) [ inl d ↦ inl (keep-may h (b .0) r d) | inr d ↦ inr (keep-draining-page (s .kind (b .0)) h (a .0) d) ]);
-      table-now = λ h n p x d a. let b = q .table-now h n p x (sym (upd-other (s .dirty) g false h (a .0)) ∙ d) (a .1) in (b .0, b .1, keep-table (s .kind (b .0)) h n p (b .2));
+          (b .0, b .1, elim (b .2) [ inl d ↦ inl (keep-may h (b .0) r d) | inr d ↦ inr (rw (d, ne-eqb h g (a .0))) ]);
+      table-now = λ h n p x d a. let b = q .table-now h n p x (sym (upd-other (s .dirty) g false h (a .0)) ∙ d) (a .1) in (b .0, b .1, rw (b .2));
       page-now = λ h v x r d a.
           let b = q .page-now h v x r (sym (upd-other (s .dirty) g false h (a .0)) ∙ d) (a .1) in
           let m = b .2 in
-          (b .0, b .1, (m .0, keep-table (s .kind (m .0)) h 0 (v / 512) (m .1), m .2));
+          (b .0, b .1, (m .0, rw (m .1), m .2));
     }
 
 pub invalidated-good : (s : State) (c : Core s) (k : Caches) (q : Kept s k) (g : ℕ) → Good (forget k g) (invalidated s g)

@@ -5,7 +5,7 @@ use mathlib.Core.Logic.{inl, inr}
 use Prim.Native.Nat.{ℕ}
 use lib.Dec.{eqb}
 use borrow.Author.Tests.{eqb-true, eqb-false}
-use Rattle.model.specs.Base.{eq?, upd, upd-at, upd-other}
+use Rattle.model.specs.Base.{eq?, upd, upd-other, upd-not}
 use Rattle.model.specs.State.{Kind, monitor, free, table, draining-table, page, draining-page, is-free, is-page, is-page-of}
 
 abbrev pub sort : Kind → ℕ
@@ -28,11 +28,7 @@ kind-keep kind f x y hf t z ht q =
     ]
 
 pub kind-from : (kind : ℕ → Kind) (f : ℕ) (y : Kind) (t : ℕ) (z : Kind) → upd kind f y t ≡ z → eqb (sort y) (sort z) ≡ false → kind t ≡ z
-kind-from kind f y t z h q =
-    elim (eq? t f) [
-      | inl p ↦ absurd (clash {x = y} {y = z} (sym (upd-at kind f y t p) ∙ h) q)
-      | inr p ↦ sym (upd-other kind f y t p) ∙ h
-    ]
+kind-from kind f y t z h q = upd-not kind f y z t (λ e. clash {x = y} {y = z} e q) h .1
 
 pub free-is : (x : Kind) → is-free x ≡ true → x ≡ free
 free-is monitor e = cc

@@ -5,27 +5,26 @@ use mathlib.Core.Logic.{_⊎_, inl, inr}
 use mathlib.Core.Option.{some}
 use Prim.Native.Nat.{ℕ, zero, suc, _+_, _*_, _≤_, _<_, _/_, _%_}
 use native.Mathlib.Omega.{arith}
-use native.Mathlib.Nat.{div-add-mod'}
 use lib.Dec.{eqb, ltb}
-use borrow.Author.Tests.{leb-true}
+use borrow.Author.Tests.{leb-true, ne-eqb}
 use Rattle.model.specs.Base.{eq?, and-true, not-true, upd, upd-same, upd-at, upd-other, upd2, upd2-other}
 use Rattle.model.specs.State.{State, Kind, free, table, page, draining-page, is-page-of, free-frames, put-byte}
-use Rattle.model.specs.Entry.{Entry, empty, to-table, to-page, other, entry, page-entry}
-use Rattle.model.specs.Translate.{upper, index, entry-at, into, descend, missing-from, translate, missing}
-use Rattle.model.specs.Changes.{Choice, zeros, becomes, with-root, with-table, Grown, grow, with-page, with-mapping, without-page, without-guest, clean}
+use Rattle.model.specs.Entry.{empty, to-table, entry, page-entry}
+use Rattle.model.specs.Translate.{upper, index, entry-at, descend, missing-from, translate, missing}
+use Rattle.model.specs.Changes.{Choice, zeros, becomes, with-root, with-table, Grown, grow, with-page, with-mapping, without-page, drained, without-guest, released, clean}
 use Rattle.model.specs.Operations.{done, create, give, map, unmap, share, unshare, take, destroy, invalidated}
 use Rattle.model.specs.Cache.{nothing-kept}
 use Rattle.model.specs.Machine.{Operation, Create, Give, Take, Map, Unmap, Share, Unshare, Destroy, Invalidated, answer, Chooses, stored}
 use Rattle.model.specs.Invariant.Kinds.{sort, clash, kind-keep, kind-from, free-is, page-of-is}
 use Rattle.model.specs.Invariant.Core.{Core}
-use Rattle.model.specs.Invariant.Way.{root-serves, step-kind, leaf-kind, translate-from}
-use Rattle.model.specs.Invariant.NewTable.{linked-here, linked-old, linked-new, linked-core}
-use Rattle.model.specs.Invariant.Choice.{first-free, fewer, rest-chosen}
+use Rattle.model.specs.Invariant.Way.{root-serves, leaf-kind, translate-from}
+use Rattle.model.specs.Invariant.NewTable.{linked-here, linked-old}
+use Rattle.model.specs.Invariant.Choice.{first-free}
 use Rattle.model.specs.Invariant.Create.{root-word}
-use Rattle.model.specs.Invariant.Grow.{zero-missing}
+use Rattle.model.specs.Invariant.Grow.{grow-by}
 use Rattle.model.specs.Invariant.MapUnmap.{address-low, some-is, grown-for, without-is}
-use Rattle.model.specs.Invariant.Destroy.{drained-other, from-table}
-use Rattle.model.specs.Invariant.Invalidated.{keep-table, released-from}
+use Rattle.model.specs.Invariant.Destroy.{from-table}
+use Rattle.model.specs.Invariant.Invalidated.{released-from}
 use Rattle.model.specs.Invariant.Answer.{Then, then-done, checked}
 use Rattle.model.specs.Invariant.Holds.{nothing-ok}
 
@@ -87,15 +86,15 @@ module _ (s : State) (l : Linked s) where
   }
 
   destroyed-linked : (g : ℕ) → Linked (without-guest s g)
-  unfolding without-guest
+  unfolding without-guest drained
   destroyed-linked g = linked-same s (without-guest s g) l
-      (λ t h n p k. let b = from-table g (s .kind t) h n p k in (b .0, refl, λ u m q a. drained-other g (s .kind u) h m q (b .1) a))
+      (λ t h n p k. let b = from-table g (s .kind t) h n p k in (b .0, refl, λ u m q a. rw (a, ne-eqb h g (b .1))))
       (λ u h n q i t a b. b)
 
   clean-linked : (g : ℕ) → Linked (clean s g)
-  unfolding clean
+  unfolding clean released
   clean-linked g = linked-same s (clean s g) l
-      (λ t h n p k. (released-from g (s .kind t) (table h n p) k refl, refl, λ u m q a. keep-table g (s .kind u) h m q a))
+      (λ t h n p k. (released-from g (s .kind t) (table h n p) k refl, refl, λ u m q a. rw a))
       (λ u h n q i t a b. b)
 
   -- a guest's store, to a frame that is no table
@@ -143,40 +142,13 @@ module _ (s : State) (l : Linked s) where
           ∙ ap (entry (s .first)) (linked-old s c t i t′ g h p q ht hi was hq hf u (λ (e : u ≡ t′). clash {x = free} {y = table g′ (suc n) p′} (sym hf ∙ ap (s .kind) (sym e) ∙ a) refl) j
           (λ (e1 : u ≡ t) (e2 : j ≡ i). let z : _≡_ {A = ℕ} 0 1 = cc in omega arith)) ∙ b
 
-grow-linked : (h : ℕ) (s : State) (c : Core s) (l : Linked s) (g t v : ℕ) (pick : ℕ → ℕ) → Choice s pick → missing-from s h t v ≤ free-frames s →
-    s .kind t ≡ table g h (upper (suc h) v) → Linked (grow h s g t v pick .state)
-unfolding grow upper
-grow-linked zero s c l g t v pick ch m a = l
-grow-linked (suc h) s c l g t v pick ch m a = at (λ s c l. grow-linked h s c l g) (entry-at s t i) refl (unfold missing-from in m)
-  where
-    IH : Type 0
-    IH = (s : State) (c : Core s) (l : Linked s) (t v : ℕ) (pick : ℕ → ℕ) → Choice s pick → missing-from s h t v ≤ free-frames s → s .kind t ≡ table g h (upper (suc h) v) → Linked (grow h s g t v pick .state)
+abbrev Grows : (h : ℕ) (s : State) (g t v : ℕ) (pick : ℕ → ℕ) → Type 0
+Grows h s g t v pick = Linked s → Linked (grow h s g t v pick .state)
 
-    i : ℕ
-    i = index (suc h) v
-
-    New : Grown
-    New = grow h (with-table s t i (pick 0) g h (upper (suc h) v)) g (pick 0) v (λ j. pick (suc j))
-
-    new : IH → entry-at s t i ≡ empty → suc h ≤ free-frames s → Linked (New .state)
-    new ih w m =
-        let some : 0 < free-frames s = omega arith in
-        let f = first-free s c pick ch some in
-        let z = div-add-mod' (upper (suc h) v) 512 in
-        let zeros = linked-new s c t i (pick 0) g h (upper (suc (suc h)) v) (upper (suc h) v) a (omega arith) w z f (pick 0) refl in
-        let n = zero-missing (with-table s t i (pick 0) g h (upper (suc h) v)) (pick 0) zeros h v in
-        let less = fewer s c pick ch some t i g h (upper (suc h) v) in
-        ih (with-table s t i (pick 0) g h (upper (suc h) v))
-        (linked-core s c t i (pick 0) g h (upper (suc (suc h)) v) (upper (suc h) v) a (omega arith) w z f)
-        (table-linked s l c t i (pick 0) g h (upper (suc (suc h)) v) (upper (suc h) v) a (omega arith) w z f)
-        (pick 0) v (λ j. pick (suc j)) (rest-chosen s c pick ch some t i g h (upper (suc h) v)) (rw n (omega arith))
-        (unfold with-table in upd-same (s .kind) (pick 0) (table g h (upper (suc h) v)))
-
-    at : IH → (e : Entry) → entry-at s t i ≡ e → into e (suc h) (λ t′. missing-from s h t′ v) ≤ free-frames s → Linked (into e New (λ t′. grow h s g t′ v pick) .state)
-    at ih empty e m = new ih e m
-    at ih (to-table t′) e m = ih s c l t′ v pick ch m (step-kind s c g h t v t′ a e)
-    at ih (to-page f r) e m = absurd (rw e at (c .tables t g (suc h) (upper (suc (suc h)) v) a i (omega arith)))
-    at ih (other x) e m = absurd (rw e at (c .tables t g (suc h) (upper (suc (suc h)) v) a i (omega arith)))
+grow-linked : (h : ℕ) (s : State) → Core s → (g t v : ℕ) (pick : ℕ → ℕ) → Choice s pick → missing-from s h t v ≤ free-frames s → s .kind t ≡ table g h (upper (suc h) v) → Grows h s g t v pick
+unfolding grow
+grow-linked = grow-by Grows (λ s c g t v pick a l. l) (λ h s c g t v pick a t′ w e l. rw w (e l))
+    (λ h s g t v pick x e l. rw (x .was) (e (table-linked s l (x .core) t (index (suc h) v) (pick 0) g h (upper (suc (suc h)) v) (upper (suc h) v) (x .above) (omega arith) (x .was) (x .range) (x .spare))))
 
 map-linked : (s : State) (c : Core s) (l : Linked s) (f g a r : ℕ) (pick : ℕ → ℕ) → Choice s pick → Then Linked (map s f g a r pick)
 unfolding map with-mapping with-page
@@ -184,7 +156,7 @@ map-linked s c l f g a r pick ch =
     checked 5 λ e1. checked 14 λ e2. checked 7 λ e3. checked 8 λ e4. checked 4 λ e5. checked 9 λ e6. checked 10 λ e7. checked 3 λ e8.
     let room = leb-true (missing s g (a / 4096)) (free-frames s) e8 in
     let z = grown-for s c nothing-kept (nothing-ok s) g (a / 4096) pick e1 (address-low a e3) ch room in
-    then-done (linked-word (x .state) (grow-linked 3 s c l g (s .root g) (a / 4096) pick ch room (root-serves (s .kind (s .root g)) g (a / 4096) (c .roots g e1) (address-low a e3)))
+    then-done (linked-word (x .state) (grow-linked 3 s c g (s .root g) (a / 4096) pick ch room (root-serves (s .kind (s .root g)) g (a / 4096) (c .roots g e1) (address-low a e3)) l)
     (x .last) g (a / 4096 / 512) (a / 4096 % 512) (page-entry (x .state .first) f r) (with-page (x .state) (x .last) (a / 4096 % 512) f r g) (z .last) refl refl refl refl)
   where
     x : Grown

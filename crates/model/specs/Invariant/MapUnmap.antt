@@ -58,7 +58,7 @@ module _ (s : State) (c : Core s) where
   -- what map finds when the tables are there: the state before the entry is written
   module _ (k : Caches) (q : Kept s k) (g v : ℕ) (pick : ℕ → ℕ) (lg : s .exists g ≡ true) (lv : v < pages) (ch : Choice s pick) (room : missing s g v ≤ free-frames s) where
     pub grown-for : Grew k s 3 g (s .root g) v (grow 3 s g (s .root g) v pick .state) (grow 3 s g (s .root g) v pick .last)
-    grown-for = grow-grew 3 s c k q g (s .root g) v pick ch room (root-serves (s .kind (s .root g)) g v (c .roots g lg) lv)
+    grown-for = grow-grew k 3 s c g (s .root g) v pick ch room (root-serves (s .kind (s .root g)) g v (c .roots g lg) lv) q
 
     pub grown-empty : translate s g v ≡ none → entry-at (grow 3 s g (s .root g) v pick .state) (grow 3 s g (s .root g) v pick .last) (v % 512) ≡ empty
     unfolding translate

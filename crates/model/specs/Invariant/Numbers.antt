@@ -7,34 +7,25 @@ use lib.Dec.{eqb, ltb, leb}
 use borrow.Author.Tests.{leb-true, eqb-true}
 use Rattle.model.specs.Base.{and-true}
 use Rattle.model.specs.State.{State}
-use Rattle.model.specs.Operations.{Out, refuse, done, started, set-up}
-use Rattle.model.specs.Cache.{Caches}
-use Rattle.model.specs.Machine.{Machine, answer, keeps, settle, call, stored, write, Step, calls, stores, Run, stop, then, SetUp}
-use Rattle.model.specs.Invariant.Answer.{Then, then-done, then-is, checked}
-use Rattle.model.specs.Invariant.Orderly.{Orderly, orderly}
-use Rattle.model.specs.Invariant.Holds.{Holds, set-up-holds, step-holds}
+use Rattle.model.specs.Operations.{done, started, set-up}
+use Rattle.model.specs.Machine.{Machine, answer, stored, Run, SetUp}
+use Rattle.model.specs.Invariant.Answer.{Then, then-done, then-is, then-more, checked}
+use Rattle.model.specs.Invariant.Orderly.{orderly}
+use Rattle.model.specs.Invariant.Holds.{Holds, Answers-keep, Stores-keep, run-keeps, set-up-holds}
 
 -- RAM lies in the same place in both states
 pub record Same-place (s s′ : State) : Type 0 where
   pub first : s′ .first ≡ s .first
   pub size : s′ .size ≡ s .size
 
-settled : (m : Machine) (k : Caches) (o : Out) → Then (Orderly (m .state)) o → Same-place (m .state) (settle m k o .state)
-unfolding settle
-settled m k (refuse a) x = record { first = refl; size = refl }
-settled m k (done s) (then-done x) = record { first = x .first; size = x .size }
-
-step-same : {m m′ : Machine} → Step m m′ → Holds m → Same-place (m .state) (m′ .state)
-unfolding call write stored
-step-same (calls {m} o ch) h = settled m (keeps (m .caches) o) (answer (m .state) o) (orderly (m .state) (h .core) o ch)
-step-same (stores {m} g f o x e l n b a) h = record { first = refl; size = refl }
-
 run-same : {m z : Machine} → Run m z → Holds m → Same-place (m .state) (z .state)
-run-same stop h = record { first = refl; size = refl }
-run-same (then x y) h =
-    let a = step-same x h in
-    let b = run-same y (step-holds x h) in
-    record { first = b .first ∙ a .first; size = b .size ∙ a .size }
+run-same {m} r h = run-keeps (Same-place (m .state)) answered written r h (record { first = refl; size = refl })
+  where
+    answered : Answers-keep (Same-place (m .state))
+    answered s c p o ch = then-more (answer s o) (λ s′ x. record { first = x .first ∙ p .first; size = x .size ∙ p .size }) (orderly s c o ch)
+
+    written : Stores-keep (Same-place (m .state))
+    written m h p g f o x n b a = unfold stored in record { first = p .first; size = p .size }
 
 -- "n frames [..], 16 <= n <= 65,536, from physical address b, a multiple of 4,096"
 pub record Place (n b : ℕ) (s : State) : Type 0 where

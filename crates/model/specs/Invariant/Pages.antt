@@ -1,10 +1,10 @@
 -- An entry of a last table is set to a page, or emptied: the common part of map and unmap.
 use mathlib.Core.Path.{_≡_, refl, sym, ap, _∙_}
 use mathlib.Core.Bool.{true≢false, true, false}
-use mathlib.Core.Logic.{inl, inr}
+use mathlib.Core.Logic.{_⊎_, inl, inr}
 use Prim.Native.Nat.{ℕ, suc, pred, _+_, _*_, _<_, _%_}
 use native.Mathlib.Omega.{arith}
-use Rattle.model.specs.Base.{eq?, upd, upd-at, upd-other, upd2, upd2-same, upd2-at, upd2-other}
+use Rattle.model.specs.Base.{eq?, upd-not, upd2, upd2-same, upd2-at, upd2-other}
 use Rattle.model.specs.State.{State, table, draining-table, page, pages}
 use Rattle.model.specs.Entry.{Entry, empty, to-page, entry, page-entry}
 use Rattle.model.specs.EntryLaws.{entry-empty, entry-page}
@@ -47,6 +47,16 @@ module _ (s : State) (c : Core s) (t g p i : ℕ) (ht : s .kind t ≡ table g 0 
     set-draining t′ g′ h p′ b j l =
         rw (set-other t′ j (λ (a : t′ ≡ t) d. clash {x = table g 0 p} {y = draining-table g′ h p′} (sym ht ∙ ap (s .kind) (sym a) ∙ b) refl)) (c .draining t′ g′ h p′ b j l)
 
+  -- an entry that leads to f is one place for f and g, and none for others
+  hit-one : (f r f′ h : ℕ) → ((f′ ≡ f) × (h ≡ g) × (hit (s .kind t) (to-page f r) f′ h ≡ 1)) ⊎ ((f′ ≡ f → h ≡ g → ⊥) × (hit (s .kind t) (to-page f r) f′ h ≡ 0))
+  hit-one f r f′ h = elim (eq? f′ f) [
+    | inr x ↦ inr (λ u v. x u, hit-else f′ f r (s .kind t) h (λ (y : f ≡ f′). x (sym y)))
+    | inl x ↦ elim (eq? h g) [
+      | inr y ↦ inr (λ u v. y v, rw (← ht) at (hit-other g 0 p (to-page f r) f′ h (λ (u : g ≡ h). y (sym u))))
+      | inl y ↦ inl (x, y, rw (x, y) (hit-page (s .kind t) (to-page f r) f g p r ht refl))
+    ]
+  ]
+
   module _ (f r : ℕ) (was : entry-at s t i ≡ empty) (m : May s g f r) (hr : r < 8) where
     pub wrote : entry (s .first) (page-entry (s .first) f r) ≡ to-page f r
     wrote = entry-page (s .first) f r (may-room s c g f r m) hr
@@ -58,20 +68,9 @@ module _ (s : State) (c : Core s) (t g p i : ℕ) (ht : s .kind t ≡ table g 0 
         (λ t′ j ne. ap (λ (e : Entry). hit (s .kind t′) e f′ h) (set-other (page-entry (s .first) f r) (to-page f r) wrote t′ j ne)) in
         let b = rw (was, hit-empty (s .kind t) f′ h, set-same (page-entry (s .first) f r) (to-page f r) wrote) at a in
         let d = c .counts f′ h in
-        elim (eq? f′ f) [
-          | inr x ↦
-              let z = hit-else f′ f r (s .kind t) h (λ (y : f ≡ f′). x (sym y)) in
-              rw (upd2-other (s .count) f g (suc (s .count f g)) f′ h (λ u v. x u)) (omega arith)
-          | inl x ↦ elim (eq? h g) [
-            | inr y ↦
-                let z = rw (← ht) at (hit-other g 0 p (to-page f r) f′ h (λ (u : g ≡ h). y (sym u))) in
-                rw (upd2-other (s .count) f g (suc (s .count f g)) f′ h (λ u v. y v)) (omega arith)
-            | inl y ↦
-                let z = hit-page (s .kind t) (to-page f r) f g p r ht refl in
-                let e1 : s .count f′ h ≡ s .count f g = cc in
-                let e2 : hit (s .kind t) (to-page f r) f′ h ≡ hit (s .kind t) (to-page f r) f g = cc in
-                rw (upd2-at (s .count) f g (suc (s .count f g)) f′ h x y) (omega arith)
-          ]
+        elim (hit-one f r f′ h) [
+          | inl x ↦ let z = x .2 in let same : s .count f′ h ≡ s .count f g = ap (λ (y : ℕ). s .count y h) (x .0) ∙ ap (s .count f) (x .1) in rw (upd2-at (s .count) f g (suc (s .count f g)) f′ h (x .0) (x .1)) (omega arith)
+          | inr x ↦ let z = x .1 in rw (upd2-other (s .count) f g (suc (s .count f g)) f′ h (x .0)) (omega arith)
         ]
 
     pub page-core : Core (with-page s t i f r g)
@@ -121,20 +120,9 @@ module _ (s : State) (c : Core s) (t g p i : ℕ) (ht : s .kind t ≡ table g 0 
         (λ t′ j ne. ap (λ (e : Entry). hit (s .kind t′) e f′ h) (set-other 0 empty gone t′ j ne)) in
         let b = rw (was, set-same 0 empty gone, hit-empty (s .kind t) f′ h) at a in
         let d = c .counts f′ h in
-        elim (eq? f′ f) [
-          | inr x ↦
-              let z = hit-else f′ f r (s .kind t) h (λ (y : f ≡ f′). x (sym y)) in
-              rw (upd2-other (s .count) f g (pred (s .count f g)) f′ h (λ u v. x u)) (omega arith)
-          | inl x ↦ elim (eq? h g) [
-            | inr y ↦
-                let z = rw (← ht) at (hit-other g 0 p (to-page f r) f′ h (λ (u : g ≡ h). y (sym u))) in
-                rw (upd2-other (s .count) f g (pred (s .count f g)) f′ h (λ u v. y v)) (omega arith)
-            | inl y ↦
-                let z = hit-page (s .kind t) (to-page f r) f g p r ht refl in
-                let e1 : s .count f′ h ≡ s .count f g = cc in
-                let e2 : hit (s .kind t) (to-page f r) f′ h ≡ hit (s .kind t) (to-page f r) f g = cc in
-                rw (upd2-at (s .count) f g (pred (s .count f g)) f′ h x y) (omega arith)
-          ]
+        elim (hit-one f r f′ h) [
+          | inl x ↦ let z = x .2 in let same : s .count f′ h ≡ s .count f g = ap (λ (y : ℕ). s .count y h) (x .0) ∙ ap (s .count f) (x .1) in rw (upd2-at (s .count) f g (pred (s .count f g)) f′ h (x .0) (x .1)) (omega arith)
+          | inr x ↦ let z = x .1 in rw (upd2-other (s .count) f g (pred (s .count f g)) f′ h (x .0)) (omega arith)
         ]
 
     pub empty-core : Core (without-page s t i f g)
@@ -152,21 +140,16 @@ module _ (s : State) (c : Core s) (t g p i : ℕ) (ht : s .kind t ≡ table g 0 
       counts = empty-counts;
     }
 
-    clean-before : (g′ : ℕ) → upd (s .dirty) g true g′ ≡ false → (g′ ≡ g → ⊥) × (s .dirty g′ ≡ false)
-    clean-before g′ d = elim (eq? g′ g) [
-      | inl e ↦ absurd (true≢false (sym (upd-at (s .dirty) g true g′ e) ∙ d))
-      | inr e ↦ (e, sym (upd-other (s .dirty) g true g′ e) ∙ d)
-    ]
-
     pub empty-kept : (k : Caches) → Kept s k → Kept (without-page s t i f g) k
     unfolding without-page
     empty-kept k q = record {
       table-ok = q .table-ok;
       page-ok = q .page-ok;
-      table-now = λ g′ h p x d a. q .table-now g′ h p x (clean-before g′ d .1) a;
+      table-now = λ g′ h p x d a. q .table-now g′ h p x (upd-not (s .dirty) g true false g′ true≢false d .1) a;
       page-now = λ g′ v x r′ d a.
-          let b = q .page-now g′ v x r′ (clean-before g′ d .1) a in
+          let z = upd-not (s .dirty) g true false g′ true≢false d in
+          let b = q .page-now g′ v x r′ (z .1) a in
           let m = b .2 in
           let m1 = m .1 in
-          (b .0, b .1, (m .0, m1, set-other 0 empty gone (m .0) (v % 512) (λ (e1 : m .0 ≡ t) e2. clean-before g′ d .0 (cc)) ∙ m .2));
+          (b .0, b .1, (m .0, m1, set-other 0 empty gone (m .0) (v % 512) (λ (e1 : m .0 ≡ t) e2. z .0 (cc)) ∙ m .2));
     }

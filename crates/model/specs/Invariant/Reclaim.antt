@@ -9,13 +9,12 @@ use borrow.Author.Tests.{eq-eqb, lt-ltb, le-leb}
 use Rattle.model.specs.Base.{eq?, lt?, bool?, upd-same, upd2, upd2-same, upd2-other, sum-cong, sum-none}
 use Rattle.model.specs.State.{State, free, page, guests, is-guest, pages, total}
 use Rattle.model.specs.Translate.{leaf, translate}
-use Rattle.model.specs.Changes.{becomes, without-page, clean}
+use Rattle.model.specs.Changes.{becomes, without-page, released, clean}
 use Rattle.model.specs.Operations.{Out, done, check, unmap, unshare, take, invalidated}
 use Rattle.model.specs.Cache.{nothing-kept}
 use Rattle.model.specs.Machine.{Machine, Operation, Unmap, Unshare, Take, Invalidated, answer, Chooses, keeps, settle, call, Run, stop, then, calls}
 use Rattle.model.specs.Theorems.Terms.{Asked, nothing, ask, Reclaims}
 use Rattle.model.specs.Invariant.Core.{Core, low}
-use Rattle.model.specs.Invariant.Invalidated.{keep-page}
 use Rattle.model.specs.Invariant.MapUnmap.{without-is}
 use Rattle.model.specs.Invariant.Answer.{Then, then-is, then-more}
 use Rattle.model.specs.Invariant.Holds.{answer-good, nothing-ok}
@@ -110,7 +109,7 @@ module _ (f g : ℕ) where
           let g2 = clean-granted s1 (u .core) h eh in
           let c2 = then-is (answer s1 (Invalidated h)) s2 (answer-core s1 (u .core) (Invalidated h) tt) g2 in
           let l2 = then-is (answer s1 (Invalidated h)) s2 (answer-linked s1 (u .core) (u .linked) (Invalidated h) tt) g2 in
-          let k2 : s2 .kind f ≡ page g = unfold clean in keep-page h (s1 .kind f) g (u .kind ∙ k) in
+          let k2 : s2 .kind f ≡ page g = unfold clean released in ap (released h) (u .kind ∙ k) in
           let d2 : s2 .dirty h ≡ false = unfold clean in upd-same (s1 .dirty) h false in
           let n2 : s2 .count f h ≡ 0 = unfold clean in u .none in
           let o2 : (h′ : ℕ) → (h′ ≡ h → ⊥) → (s2 .count f h′ ≡ s .count f h′) × (s2 .shared f h′ ≡ s .shared f h′) = unfold clean in λ h′ ne. (u .others h′ ne, u .shared h′) in
@@ -176,7 +175,7 @@ module _ (f g : ℕ) where
       let s2 = clean s1 g in
       let g2 = clean-granted s1 (p .core) g (c .guests-only g (c .page-exists f g k)) in
       let c2 = then-is (answer s1 (Invalidated g)) s2 (answer-core s1 (p .core) (Invalidated g) tt) g2 in
-      let k2 : s2 .kind f ≡ page g = unfold clean in keep-page g (s1 .kind f) g (p .kind) in
+      let k2 : s2 .kind f ≡ page g = unfold clean released in ap (released g) (p .kind) in
       let d2 : s2 .dirty g ≡ false = unfold clean in upd-same (s1 .dirty) g false in
       let z1 : total (s2 .count f) ≡ 0 = unfold clean in total-none (s1 .count f) (λ h a b. p .none h a b .0) in
       let z2 : total (s2 .shared f) ≡ 0 = unfold clean in total-none (s1 .shared f) (λ h a b. p .none h a b .1) in

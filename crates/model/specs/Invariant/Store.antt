@@ -1,9 +1,8 @@
 -- RAM changes beside the tables: the invariant does not notice. So it is after a guest's store, which changes a frame that is no table.
 use mathlib.Core.Path.{_≡_, refl, sym, ap, _∙_}
-use mathlib.Core.Bool.{true, false}
+use mathlib.Core.Bool.{true, false, true≢false}
 use mathlib.Core.Logic.{_⊎_, inl, inr}
 use Prim.Native.Nat.{ℕ, _/_, _%_}
-use native.Mathlib.Omega.{arith}
 use Rattle.model.specs.Base.{upd2, upd2-other}
 use Rattle.model.specs.State.{State, Kind, monitor, free, table, draining-table, page, draining-page, reworded, put-byte, tabled}
 use Rattle.model.specs.Entry.{entry}
@@ -13,6 +12,7 @@ use Rattle.model.specs.Machine.{stored}
 use Rattle.model.specs.Invariant.Core.{May, Core, Kept, hit}
 use Rattle.model.specs.Invariant.Counts.{places-cong}
 
+-- w the words after it, which are the same in every table, in use or draining
 module _ (s : State) (w : ℕ → ℕ → ℕ) (same : (t : ℕ) → tabled (s .kind t) ≡ true → (i : ℕ) → w t i ≡ s .word t i) where
   same-in : (t : ℕ) (y : Kind) → s .kind t ≡ y → tabled y ≡ true → (i : ℕ) → w t i ≡ s .word t i
   same-in t y e h i = same t (ap tabled e ∙ h) i
@@ -57,7 +57,7 @@ module _ (s : State) (g f r o x : ℕ) (m : May s g f r ⊎ (s .kind f ≡ drain
   no-table t h e = go m
     where
       other : (y : Kind) → s .kind f ≡ y → tabled y ≡ false → ⊥
-      other y z n = let z : true ≡ false = sym h ∙ ap (λ (u : ℕ). tabled (s .kind u)) e ∙ ap tabled z ∙ n in let z : _≡_ {A = ℕ} 0 1 = cc in omega arith
+      other y z n = true≢false (sym h ∙ ap (λ (u : ℕ). tabled (s .kind u)) e ∙ ap tabled z ∙ n)
 
       go : May s g f r ⊎ (s .kind f ≡ draining-page g) → ⊥
       go (inl (inl z)) = other (page g) z refl

@@ -1,18 +1,18 @@
 -- A frame to which nothing leads: neither what is kept nor an entry of a table.
 use mathlib.Core.Path.{_≡_, refl, sym, ap, _∙_}
-use mathlib.Core.Logic.{_⊎_, inl, inr}
-use Prim.Native.Nat.{ℕ, zero, suc, _+_, _*_, _<_, _/_}
+use mathlib.Core.Logic.{inl, inr}
+use Prim.Native.Nat.{ℕ, zero, _+_, _<_, _/_, _%_}
 use native.Mathlib.Omega.{arith}
-use Rattle.model.specs.State.{State, free, table, draining-table, page, draining-page}
+use Rattle.model.specs.State.{State, free, table, page, draining-page}
 use Rattle.model.specs.Entry.{to-page}
-use Rattle.model.specs.Translate.{upper, index, entry-at}
+use Rattle.model.specs.Translate.{entry-at}
 use Rattle.model.specs.Operations.{Out, refuse, done}
-use Rattle.model.specs.Cache.{inside, Caches, forget, Translation, kept, read-off, grown, Access, Reach}
+use Rattle.model.specs.Cache.{Caches, forget, Translation, kept, grown, Access, Reach}
 use Rattle.model.specs.Machine.{Machine, Operation, Create, Give, Take, Map, Unmap, Share, Unshare, Destroy, Invalidated, answer, Chooses, keeps, settle, call, stored, write, Step, calls, stores, Reaches}
 use Rattle.model.specs.Theorems.Terms.{Handed, Laid}
 use Rattle.model.specs.Invariant.Kinds.{clash}
 use Rattle.model.specs.Invariant.Core.{Core, Kept}
-use Rattle.model.specs.Invariant.Found.{out-fits, out-stale, table-found, grown-kept}
+use Rattle.model.specs.Invariant.Found.{traced, grown-kept}
 use Rattle.model.specs.Invariant.Answer.{then-is, Sound}
 use Rattle.model.specs.Invariant.Orderly.{Fresh, orderly}
 use Rattle.model.specs.Invariant.Bytes.{bytes-zero}
@@ -26,31 +26,16 @@ pub record Unled (s : State) (k : Caches) (f : ℕ) : Type 0 where
 
 module _ (s : State) (k : Caches) (c : Core s) (q : Kept s k) (f : ℕ) (u : Unled s k f) where
   pub no-translation : {g v x r : ℕ} → Translation s k g v x r → x ≡ s .first + f → ⊥
-  no-translation {g} {v} {x} {r} (kept a) e = u .none-kept g v x r a e
-  no-translation {g} {v} (read-off {x} {r} h y t p a e l d o) w = go (table-found s k c q g a)
-    where
-      same : (h f′ : ℕ) → h ≡ 0 → p ≡ s .first + f′ → x ≡ inside h p v → f′ ≡ f
-      same zero f′ z p= o = let o′ : x ≡ p = unfold inside in o in omega arith
-      same (suc h) f′ z p= o = absurd (omega arith)
-
-      last : (h f′ : ℕ) → h ≡ 0 → f′ ≡ f → s .kind t ≡ table g h (upper (suc h) v) → entry-at s t (index h v) ≡ to-page f′ r → ⊥
-      last zero f′ z f= b n = u .no-entry t g (upper 1 v) (index 0 v) r b (omega arith) (n ∙ ap (λ (i : ℕ). to-page i r) f=)
-      last (suc h) f′ z f= b n = omega arith
-
-      go : (t′ : ℕ) × (y ≡ s .first + t′) × ((s .kind t′ ≡ table g h (upper (suc h) v)) ⊎ (s .kind t′ ≡ draining-table g h (upper (suc h) v))) → ⊥
-      go b =
-          let b1 = b .1 in
-          let t= : b .0 ≡ t = omega arith in
-          elim (rw t= at (b .2)) [
-            | inl z ↦
-                let n = out-fits s c g h (upper (suc h) v * 512 + index h v) (s .word t (index h v)) p r (c .tables t g h (upper (suc h) v) z (index h v) (omega arith)) d in
-                let n1 = n .1 in
-                last h (n1 .0) (n .0) (same h (n1 .0) (n .0) (n1 .1) o) z (n1 .2)
-            | inr z ↦
-                let n = out-stale s c g h (upper (suc h) v * 512 + index h v) (s .word t (index h v)) p r (c .draining t g h (upper (suc h) v) z (index h v) (omega arith)) d in
-                let n1 = n .1 in
-                u .not-draining g (ap (s .kind) (sym (same h (n1 .0) (n .0) (n1 .1) o)) ∙ n1 .3)
-          ]
+  no-translation {g} {v} {x} {r} y e = elim (traced s k c q g y) [
+    | inl a ↦ u .none-kept g v x r a e
+    | inr b ↦
+        let b2 = b .2 in
+        let f= : b .1 ≡ f = omega arith in
+        elim (b .4) [
+          | inl m ↦ u .no-entry (b .0) g (v / 512) (v % 512) r (m .0) (omega arith) (b .3 ∙ ap (λ (i : ℕ). to-page i r) f=)
+          | inr m ↦ u .not-draining g (ap (s .kind) (sym f=) ∙ m .1)
+        ]
+  ]
 
   pub unreached : (g : ℕ) (w : Access) (a : ℕ) → a / 4096 ≡ s .first + f → Reach s k g w a → ⊥
   unfolding Reach

@@ -5,19 +5,20 @@ use Prim.Native.Nat.{ℕ, zero, suc, _+_, _*_, _≤_, _<_, _/_, _%_, _^_}
 use native.Mathlib.Omega.{arith}
 use borrow.Author.Tests.{leb-true}
 use Rattle.model.specs.Base.{eq?, upd, upd-at, upd-other, upd2, upd2-at, upd2-other}
-use Rattle.model.specs.State.{State, free, pages, put-byte, free-frames}
-use Rattle.model.specs.Entry.{Entry, empty, to-table, to-page, other, table-entry, page-entry}
-use Rattle.model.specs.Translate.{upper, index, entry-at, into, translate, missing-from, missing}
+use Rattle.model.specs.State.{State, free, table, pages, put-byte, free-frames}
+use Rattle.model.specs.Entry.{table-entry, page-entry}
+use Rattle.model.specs.Translate.{upper, index, translate, missing-from, missing}
 use Rattle.model.specs.Changes.{Choice, zeros, becomes, with-root, with-table, grow, with-page, with-mapping, without-page, without-guest, clean}
-use Rattle.model.specs.Operations.{Out, refuse, done, create, give, map, unmap, share, unshare, take, destroy, invalidated}
-use Rattle.model.specs.Cache.{Caches, nothing-kept}
-use Rattle.model.specs.Machine.{Machine, Operation, Create, Give, Take, Map, Unmap, Share, Unshare, Destroy, Invalidated, answer, Chooses, keeps, settle, call, stored, write, Step, calls, stores, Run, stop, then}
+use Rattle.model.specs.Operations.{create, give, map, unmap, share, unshare, take, destroy, invalidated}
+use Rattle.model.specs.Cache.{nothing-kept}
+use Rattle.model.specs.Machine.{Machine, Operation, Create, Give, Take, Map, Unmap, Share, Unshare, Destroy, Invalidated, answer, Chooses, stored, Run}
 use Rattle.model.specs.Invariant.Core.{Core, in-room}
 use Rattle.model.specs.Invariant.Answer.{Then, then-done, checked, may-is}
 use Rattle.model.specs.Invariant.Pages.{may-room}
 use Rattle.model.specs.Invariant.MapUnmap.{address-low, some-is, without-is, grown-for}
-use Rattle.model.specs.Invariant.Way.{translate-from}
-use Rattle.model.specs.Invariant.Holds.{Holds, nothing-ok, step-holds}
+use Rattle.model.specs.Invariant.Way.{root-serves, translate-from}
+use Rattle.model.specs.Invariant.Grow.{Links, linked, grow-by}
+use Rattle.model.specs.Invariant.Holds.{Holds, Stores-keep, nothing-ok, run-keeps}
 
 abbrev pub Wide : (ℕ → ℕ → ℕ) → Type 0
 Wide w = (f i : ℕ) → w f i < 2 ^ 64
@@ -65,45 +66,18 @@ byte-wide : (k w x : ℕ) → k < 8 → w < 2 ^ 64 → x < 256 → put-byte k w 
 byte-wide k w x l h b = unfold room in put-wide 8 k w x l h b
 
 -- the tables that map makes
-few-missing : (s : State) (h t v : ℕ) → missing-from s h t v ≤ h
-unfolding missing-from
-few-missing s zero t v = omega arith
-few-missing s (suc h) t v = go (few-missing s h) (entry-at s t (index (suc h) v))
-  where
-    go : ((t v : ℕ) → missing-from s h t v ≤ h) → (e : Entry) → into e (suc h) (λ t′. missing-from s h t′ v) ≤ suc h
-    go ih empty = omega arith
-    go ih (to-table t′) = let z = ih t′ v in omega arith
-    go ih (to-page f r) = omega arith
-    go ih (other x) = omega arith
+abbrev Widens : (h : ℕ) (s : State) (g t v : ℕ) (pick : ℕ → ℕ) → Type 0
+Widens h s g t v pick = Wide (s .word) → Wide (grow h s g t v pick .state .word)
 
-grow-wide : (h : ℕ) (s : State) (g t v : ℕ) (pick : ℕ → ℕ) → Wide (s .word) → ((i : ℕ) → i < missing-from s h t v → s .first + pick i < pages) → Wide (grow h s g t v pick .state .word)
-unfolding grow missing-from
-grow-wide zero s g t v pick w l = w
-grow-wide (suc h) s g t v pick w l = go (grow-wide h) (entry-at s t (index (suc h) v)) refl
-  where
-    i : ℕ
-    i = index (suc h) v
+linked-wide : (h : ℕ) (s : State) (g t v : ℕ) (pick : ℕ → ℕ) → Links h s g t v pick → Wide (s .word) → Wide (linked h s g t v pick .word)
+unfolding with-table
+linked-wide h s g t v pick x w = word-wide (upd (s .word) (pick 0) zeros) (frame-wide (s .word) w (pick 0)) t (index (suc h) v) (table-entry (s .first) (pick 0)) (table-wide (s .first) (pick 0) (in-room s (x .core) (pick 0) free (x .spare) refl))
 
-    s₁ : State
-    s₁ = with-table s t i (pick 0) g h (upper (suc h) v)
-
-    more : ((s : State) (g t v : ℕ) (pick : ℕ → ℕ) → Wide (s .word) → ((i : ℕ) → i < missing-from s h t v → s .first + pick i < pages) → Wide (grow h s g t v pick .state .word)) →
-        ((j : ℕ) → j < suc h → s .first + pick j < pages) → Wide (grow h s₁ g (pick 0) v (λ j. pick (suc j)) .state .word)
-    more ih k = ih s₁ g (pick 0) v (λ j. pick (suc j))
-        (unfold with-table in word-wide (upd (s .word) (pick 0) zeros) (frame-wide (s .word) w (pick 0)) t i (table-entry (s .first) (pick 0)) (table-wide (s .first) (pick 0) (k 0 (omega arith))))
-        (λ j (a : j < missing-from s₁ h (pick 0) v). unfold with-table in k (suc j) (omega (arith, few-missing s₁ h (pick 0) v)))
-
-    go : ((s : State) (g t v : ℕ) (pick : ℕ → ℕ) → Wide (s .word) → ((i : ℕ) → i < missing-from s h t v → s .first + pick i < pages) → Wide (grow h s g t v pick .state .word)) → (e : Entry) →
-        entry-at s t i ≡ e → Wide (grow (suc h) s g t v pick .state .word)
-    go ih empty q = rw q (more ih (rw q at l))
-    go ih (to-table t′) q = rw q (ih s g t′ v pick w (rw q at l))
-    go ih (to-page f r) q = rw q (more ih (rw q at l))
-    go ih (other x) q = rw q (more ih (rw q at l))
+grow-wide : (h : ℕ) (s : State) → Core s → (g t v : ℕ) (pick : ℕ → ℕ) → Choice s pick → missing-from s h t v ≤ free-frames s → s .kind t ≡ table g h (upper (suc h) v) → Widens h s g t v pick
+unfolding grow
+grow-wide = grow-by Widens (λ s c g t v pick a w. w) (λ h s c g t v pick a t′ d e w. rw d (e w)) (λ h s g t v pick x e w. rw (x .was) (e (linked-wide h s g t v pick x w)))
 
 module _ (s : State) (c : Core s) (w : Wide (s .word)) where
-  picked : (pick : ℕ → ℕ) → Choice s pick → (i : ℕ) → i < free-frames s → s .first + pick i < pages
-  picked pick ch i l = in-room s c (pick i) free (ch .frees i l) refl
-
   answer-wide : (o : Operation) → Chooses s o → Then (λ s. Wide (s .word)) (answer s o)
   unfolding answer create give take share unshare destroy invalidated map unmap with-root becomes with-mapping with-page without-page without-guest clean
   answer-wide (Create g pick) ch = checked 1 λ e1. checked 2 λ e2. checked 3 λ e3. then-done (frame-wide (s .word) w (pick 0))
@@ -114,7 +88,7 @@ module _ (s : State) (c : Core s) (w : Wide (s .word)) where
       let x = grow 3 s g (s .root g) v pick in
       let enough = leb-true (missing s g v) (free-frames s) e8 in
       let z = grown-for s c nothing-kept (nothing-ok s) g v pick e1 (address-low a e3) ch enough in
-      let tables : Wide (x .state .word) = grow-wide 3 s g (s .root g) v pick w (λ i (l : i < missing s g v). picked pick ch i (omega arith)) in
+      let tables : Wide (x .state .word) = grow-wide 3 s c g (s .root g) v pick ch enough (root-serves (s .kind (s .root g)) g v (c .roots g e1) (address-low a e3)) w in
       then-done (word-wide (x .state .word) tables (x .last) (v % 512) (page-entry (x .state .first) f r) (page-wide (x .state .first) f r (may-room (x .state) (z .core) g f r (z .may g f r (may-is s g f r e6)))))
   answer-wide (Unmap g a) ch = checked 5 λ e1. checked 7 λ e2. checked 11 λ e3.
       let o = some-is (translate s g (a / 4096)) e3 in
@@ -125,17 +99,9 @@ module _ (s : State) (c : Core s) (w : Wide (s .word)) where
   answer-wide (Destroy g) ch = checked 5 λ e1. checked 13 λ e2. then-done w
   answer-wide (Invalidated g) ch = checked 1 λ e1. then-done w
 
-settled-wide : (m : Machine) (k : Caches) (o : Out) → Wide (m .state .word) → Then (λ s. Wide (s .word)) o → Wide (settle m k o .state .word)
-unfolding settle
-settled-wide m k (refuse a) w x = w
-settled-wide m k (done s) w (then-done x) = x
-
-step-wide : {m m′ : Machine} → Step m m′ → Holds m → Wide (m .state .word) → Wide (m′ .state .word)
-unfolding call write stored
-step-wide (calls {m} o ch) h w = settled-wide m (keeps (m .caches) o) (answer (m .state) o) w (answer-wide (m .state) (h .core) w o ch)
-step-wide (stores {m} g f o x e l n b a) h w =
-    word-wide (m .state .word) w f (o / 8) (put-byte (o % 8) (m .state .word f (o / 8)) x) (byte-wide (o % 8) (m .state .word f (o / 8)) x (omega arith) (w f (o / 8)) b)
-
 pub run-wide : {m z : Machine} → Run m z → Holds m → Wide (m .state .word) → Wide (z .state .word)
-run-wide stop h w = w
-run-wide (then x y) h w = run-wide y (step-holds x h) (step-wide x h w)
+run-wide = run-keeps (λ s. Wide (s .word)) (λ s c w. answer-wide s c w) written
+  where
+    written : Stores-keep (λ s. Wide (s .word))
+    written m h w g f o x n b a = unfold stored in
+        word-wide (m .state .word) w f (o / 8) (put-byte (o % 8) (m .state .word f (o / 8)) x) (byte-wide (o % 8) (m .state .word f (o / 8)) x (omega arith) (w f (o / 8)) b)

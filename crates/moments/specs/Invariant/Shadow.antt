@@ -1,12 +1,13 @@
 -- Between two stores of an operation: a state that meets the invariant, and has the same words wherever a table can be, stands for the moment.
 use mathlib.Core.Path.{_≡_, refl, sym, ap, _∙_}
 use mathlib.Core.Logic.{inl, inr}
-use Prim.Native.Nat.{ℕ, suc, _+_, _<_, _/_}
+use Prim.Native.Nat.{ℕ, suc, _+_, _<_}
 use native.Mathlib.Omega.{arith}
 use Rattle.model.specs.State.{State, free, table, draining-table, page, draining-page, reworded}
 use Rattle.model.specs.Translate.{index}
-use Rattle.model.specs.Cache.{descriptor, Caches, Table, from-root, from-kept, from-word, Translation, kept, read-off, grown, Access, Reach}
+use Rattle.model.specs.Cache.{descriptor, Caches, Table, from-root, from-kept, from-word, Translation, kept, read-off, grown, Reach}
 use Rattle.model.specs.Theorems.Terms.{Allowed}
+use Rattle.moments.specs.Moments.{Safe}
 use Rattle.model.specs.Invariant.Kinds.{clash}
 use Rattle.model.specs.Invariant.Core.{Core, Kept}
 use Rattle.model.specs.Invariant.Found.{table-found, grown-kept}
@@ -78,10 +79,7 @@ module _ (z : State) where
   }
 
   -- what is reached at such a moment
-  abbrev pub Safe : Caches → (ℕ → ℕ → ℕ) → Type 0
-  Safe k w = (g : ℕ) (acc : Access) (a : ℕ) → Reach (reworded z w) k g acc a → (f : ℕ) × (a / 4096 ≡ z .first + f) × Allowed z g f acc
-
-  pub safe : (k : Caches) (w : ℕ → ℕ → ℕ) (s : State) → Shadow z k w s → Safe k w
+  pub safe : (k : Caches) (w : ℕ → ℕ → ℕ) (s : State) → Shadow z k w s → Safe z k w
   safe k w s sh g acc a x =
       let y : Reach s k g acc a = unfold Reach in (x .0, x .1, page-through z k w s sh g (x .2), x .3) in
       let b = reached s k (sh .core) (sh .kept) g acc a y in

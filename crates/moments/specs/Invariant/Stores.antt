@@ -3,25 +3,21 @@ use mathlib.Core.Path.{_≡_, refl, sym, ap, _∙_}
 use mathlib.Core.Bool.{Bool, false}
 use mathlib.Core.Logic.{inl, inr}
 use mathlib.Core.List.{List, _∷_, _++_, append-assoc}
-use mathlib.Core.Option.{some}
 use Prim.Native.Nat.{ℕ, zero, suc, _+_, _*_, _≤_, _<_}
 use native.Mathlib.Omega.{arith}
-use native.Mathlib.Nat.{div-add-mod'}
 use lib.Dec.{eqb}
-use Rattle.model.specs.Base.{eq?, upd-same, upd-other, upd2, upd2-same, upd2-at, upd2-other}
+use Rattle.model.specs.Base.{eq?, upd-other, upd2, upd2-same, upd2-at, upd2-other}
 use Rattle.model.specs.State.{State, Kind, free, table, page, draining-page, free-frames, reworded}
-use Rattle.model.specs.Entry.{Entry, empty, to-table, to-page, other, table-entry}
-use Rattle.model.specs.Translate.{upper, index, entry-at, into, missing-from}
+use Rattle.model.specs.Entry.{empty, table-entry}
+use Rattle.model.specs.Translate.{upper, index, entry-at, missing-from}
 use Rattle.model.specs.Changes.{Choice, with-table, grow}
 use Rattle.model.specs.Cache.{Caches, kept, grown}
-use Rattle.moments.specs.Moments.{Store, clear-from, clear, grow-stores, store}
+use Rattle.moments.specs.Moments.{Store, clear-from, grow-stores, store, Safe}
 use Rattle.model.specs.Invariant.Kinds.{sort, kind-from}
 use Rattle.model.specs.Invariant.Core.{Core, Kept}
-use Rattle.model.specs.Invariant.Way.{step-kind}
 use Rattle.model.specs.Invariant.NewTable.{both?, linked-new, linked-old, linked-core, linked-kept}
-use Rattle.model.specs.Invariant.Choice.{first-free, fewer, rest-chosen}
-use Rattle.model.specs.Invariant.Grow.{zero-missing}
-use Rattle.moments.specs.Invariant.Shadow.{Shadow, look, Safe, safe}
+use Rattle.model.specs.Invariant.Grow.{Links, linked, grow-by}
+use Rattle.moments.specs.Invariant.Shadow.{Shadow, look, safe}
 
 -- n words of frame f, from word i on, have become 0
 pub record Cleared (w : ℕ → ℕ → ℕ) (f i n : ℕ) (w′ : ℕ → ℕ → ℕ) : Type 0 where
@@ -121,54 +117,24 @@ module _ (z : State) (G : Caches → (ℕ → ℕ → ℕ) → List Store → Ty
       (through-clear n (suc i) f s hf rest (grown (reworded z (upd2 w f i 0)) k) (upd2 w f i 0) (look z k (upd2 w f i 0) s (free-store z k w s f i 0 hf sh)) (λ k′ w′ sh′ c. then-rest k′ w′ sh′ (cleared-more w w′ f i n c)))
 
   -- the tables that map makes
-  pub through-grow : (h : ℕ) (s : State) (g t v : ℕ) (pick : ℕ → ℕ) → Choice s pick → missing-from s h t v ≤ free-frames s → s .kind t ≡ table g h (upper (suc h) v) →
-      (rest : List Store) (k : Caches) (w : ℕ → ℕ → ℕ) → Shadow z k w s →
+  abbrev Through : (h : ℕ) (s : State) (g t v : ℕ) (pick : ℕ → ℕ) → Type 1
+  Through h s g t v pick = (rest : List Store) (k : Caches) (w : ℕ → ℕ → ℕ) → Shadow z k w s →
       ((k′ : Caches) (w′ : ℕ → ℕ → ℕ) → Shadow z k′ w′ (grow h s g t v pick .state) → G k′ w′ rest) → G k w (grow-stores h s g t v pick ++ rest)
-  unfolding grow grow-stores upper
-  through-grow zero s g t v pick ch m a rest k w sh then-rest = then-rest k w sh
-  through-grow (suc h) s g t v pick ch m a rest k w sh then-rest = at (through-grow h) (entry-at s t i) refl (unfold missing-from in m) then-rest
-    where
-      IH : Type 1
-      IH = (s : State) (g t v : ℕ) (pick : ℕ → ℕ) → Choice s pick → missing-from s h t v ≤ free-frames s → s .kind t ≡ table g h (upper (suc h) v) →
-          (rest : List Store) (k : Caches) (w : ℕ → ℕ → ℕ) → Shadow z k w s →
-          ((k′ : Caches) (w′ : ℕ → ℕ → ℕ) → Shadow z k′ w′ (grow h s g t v pick .state) → G k′ w′ rest) → G k w (grow-stores h s g t v pick ++ rest)
 
-      i : ℕ
-      i = index (suc h) v
+  through-made : (h : ℕ) (s : State) (g t v : ℕ) (pick : ℕ → ℕ) → Links h s g t v pick → Through h (linked h s g t v pick) g (pick 0) v (λ j. pick (suc j)) → Through (suc h) s g t v pick
+  unfolding grow grow-stores
+  through-made h s g t v pick x e rest k w sh then-rest =
+      let i = index (suc h) v in
+      let t′ = pick 0 in
+      let s1 = linked h s g t v pick in
+      let one : Store = record { frame = t; index = i; value = table-entry (s .first) t′ } in
+      let more = grow-stores h s1 g t′ v (λ j. pick (suc j)) in
+      rw (x .was, append-assoc) (through-clear 512 0 t′ s (x .spare) (one ∷ (more ++ rest)) k w sh (λ k′ w′ sh′ cl.
+      cons k′ w′ one (more ++ rest) (safe z k′ w′ s sh′)
+      (e rest (grown (reworded z (store w′ one)) k′) (store w′ one)
+      (look z k′ (store w′ one) s1 (link z k′ w′ s t i t′ g h (upper (suc (suc h)) v) (upper (suc h) v) (x .above) (omega arith) (x .was) (x .range) (x .spare) (λ j m. cl .zeros j (omega arith) (omega arith)) sh′))
+      (rw (x .was) at then-rest))))
 
-      t′ : ℕ
-      t′ = pick 0
-
-      s1 : State
-      s1 = with-table s t i t′ g h (upper (suc h) v)
-
-      New : List Store
-      New = grow-stores h s1 g t′ v (λ j. pick (suc j))
-
-      one : Store
-      one = record { frame = t; index = i; value = table-entry (s .first) t′ }
-
-      new : IH → entry-at s t i ≡ empty → suc h ≤ free-frames s → ((k′ : Caches) (w′ : ℕ → ℕ → ℕ) → Shadow z k′ w′ (grow h s1 g t′ v (λ j. pick (suc j)) .state) → G k′ w′ rest) →
-          G k w ((clear t′ ++ (one ∷ New)) ++ rest)
-      new ih e l then-rest =
-          let some : 0 < free-frames s = omega arith in
-          let c = sh .core in
-          let f = first-free s c pick ch some in
-          let z1 = div-add-mod' (upper (suc h) v) 512 in
-          let zeros1 = linked-new s c t i t′ g h (upper (suc (suc h)) v) (upper (suc h) v) a (omega arith) e z1 f t′ refl in
-          let n1 = zero-missing s1 t′ zeros1 h v in
-          let less = fewer s c pick ch some t i g h (upper (suc h) v) in
-          rw append-assoc (through-clear 512 0 t′ s f (one ∷ (New ++ rest)) k w sh (λ k′ w′ sh′ cl.
-          cons k′ w′ one (New ++ rest) (safe z k′ w′ s sh′)
-          (ih s1 g t′ v (λ j. pick (suc j)) (rest-chosen s c pick ch some t i g h (upper (suc h) v)) (rw n1 (omega arith)) (unfold with-table in upd-same (s .kind) t′ (table g h (upper (suc h) v)))
-          rest (grown (reworded z (store w′ one)) k′) (store w′ one)
-          (look z k′ (store w′ one) s1 (link z k′ w′ s t i t′ g h (upper (suc (suc h)) v) (upper (suc h) v) a (omega arith) e z1 f (λ j m. cl .zeros j (omega arith) (omega arith)) sh′))
-          then-rest)))
-
-      at : IH → (x : Entry) → entry-at s t i ≡ x → into x (suc h) (λ t′. missing-from s h t′ v) ≤ free-frames s →
-          ((k′ : Caches) (w′ : ℕ → ℕ → ℕ) → Shadow z k′ w′ (into x (grow h s1 g t′ v (λ j. pick (suc j))) (λ t′. grow h s g t′ v pick) .state) → G k′ w′ rest) →
-          G k w (into x (clear t′ ++ (one ∷ New)) (λ t′. grow-stores h s g t′ v pick) ++ rest)
-      at ih empty e m then-rest = new ih e m then-rest
-      at ih (to-table u) e m then-rest = ih s g u v pick ch m (step-kind s (sh .core) g h t v u a e) rest k w sh then-rest
-      at ih (to-page f r) e m then-rest = absurd (rw e at (sh .core .tables t g (suc h) (upper (suc (suc h)) v) a i (omega arith)))
-      at ih (other x) e m then-rest = absurd (rw e at (sh .core .tables t g (suc h) (upper (suc (suc h)) v) a i (omega arith)))
+  pub through-grow : (h : ℕ) (s : State) → Core s → (g t v : ℕ) (pick : ℕ → ℕ) → Choice s pick → missing-from s h t v ≤ free-frames s → s .kind t ≡ table g h (upper (suc h) v) → Through h s g t v pick
+  unfolding grow grow-stores
+  through-grow = grow-by Through (λ s c g t v pick a rest k w sh then-rest. then-rest k w sh) (λ h s c g t v pick a t′ d e rest k w sh then-rest. rw d (e rest k w sh (rw d at then-rest))) through-made

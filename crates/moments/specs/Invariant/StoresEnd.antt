@@ -3,20 +3,21 @@ use mathlib.Core.Path.{_≡_, refl, sym, ap, subst, _∙_}
 use mathlib.Core.Logic.{inl, inr}
 use mathlib.Core.List.{List, [], _∷_, _++_}
 use mathlib.Core.Option.{some}
-use Prim.Native.Nat.{ℕ, zero, suc, _<_, _/_, _%_}
+use Prim.Native.Nat.{ℕ, zero, suc, _≤_, _<_, _/_, _%_}
 use native.Mathlib.Omega.{arith}
 use borrow.Author.Tests.{leb-true}
 use Rattle.model.specs.Base.{eq?, upd, upd-same, upd-other, upd2, upd2-at, upd2-other}
-use Rattle.model.specs.State.{State, free-frames}
-use Rattle.model.specs.Entry.{Entry, empty, to-table, to-page, other, table-entry, page-entry}
-use Rattle.model.specs.Translate.{upper, index, entry-at, into, leaf, translate, missing}
+use Rattle.model.specs.State.{State, table, free-frames}
+use Rattle.model.specs.Entry.{table-entry, page-entry}
+use Rattle.model.specs.Translate.{upper, index, leaf, translate, missing-from, missing}
 use Rattle.model.specs.Changes.{Choice, zeros, becomes, with-root, with-table, Grown, grow, with-page, with-mapping, without-page, without-guest, clean}
 use Rattle.model.specs.Operations.{create, give, map, unmap, share, unshare, take, destroy, invalidated}
 use Rattle.model.specs.Cache.{nothing-kept}
 use Rattle.model.specs.Machine.{Operation, Create, Give, Take, Map, Unmap, Share, Unshare, Destroy, Invalidated, answer, Chooses}
 use Rattle.moments.specs.Moments.{Store, clear-from, clear, grow-stores, stores-of, store, after-stores}
 use Rattle.model.specs.Invariant.Core.{Core}
-use Rattle.model.specs.Invariant.Way.{translate-from}
+use Rattle.model.specs.Invariant.Way.{root-serves, translate-from}
+use Rattle.model.specs.Invariant.Grow.{Links, linked, grow-by}
 use Rattle.model.specs.Invariant.NewTable.{both?}
 use Rattle.model.specs.Invariant.MapUnmap.{address-low, some-is, grown-for, without-is}
 use Rattle.model.specs.Invariant.Answer.{Then, then-done, checked}
@@ -61,40 +62,24 @@ same-then : (w w′ w″ : ℕ → ℕ → ℕ) → Same w w′ → Same w′ w�
 same-then w w′ w″ a b f i l = a f i l ∙ b f i l
 
 -- the tables that map makes
-grow-end : (h : ℕ) (s : State) (g t v : ℕ) (pick : ℕ → ℕ) → Same (after-stores (s .word) (grow-stores h s g t v pick)) (grow h s g t v pick .state .word)
+abbrev Made : (h : ℕ) (s : State) (g t v : ℕ) (pick : ℕ → ℕ) → Type 0
+Made h s g t v pick = Same (after-stores (s .word) (grow-stores h s g t v pick)) (grow h s g t v pick .state .word)
+
+end-made : (h : ℕ) (s : State) (g t v : ℕ) (pick : ℕ → ℕ) → Links h s g t v pick → Made h (linked h s g t v pick) g (pick 0) v (λ j. pick (suc j)) → Made (suc h) s g t v pick
 unfolding grow grow-stores
-grow-end zero s g t v pick = unfold after-stores in λ f i l. refl
-grow-end (suc h) s g t v pick = at (grow-end h) (entry-at s t i)
-  where
-    IH : Type 0
-    IH = (s : State) (g t v : ℕ) (pick : ℕ → ℕ) → Same (after-stores (s .word) (grow-stores h s g t v pick)) (grow h s g t v pick .state .word)
+end-made h s g t v pick x e =
+    let i = index (suc h) v in
+    let s1 = linked h s g t v pick in
+    let one : Store = record { frame = t; index = i; value = table-entry (s .first) (pick 0) } in
+    let more = grow-stores h s1 g (pick 0) v (λ j. pick (suc j)) in
+    let cleared = after-stores (s .word) (clear (pick 0)) in
+    let same : Same (store cleared one) (s1 .word) = unfold with-table in same-store cleared (upd (s .word) (pick 0) zeros) t i (table-entry (s .first) (pick 0)) (clear-same (pick 0) (s .word)) in
+    rw (x .was, after-append (clear (pick 0)) (one ∷ more) (s .word)) (unfold after-stores in
+    same-then (after-stores (store cleared one) more) (after-stores (s1 .word) more) (grow h s1 g (pick 0) v (λ j. pick (suc j)) .state .word) (same-after more (store cleared one) (s1 .word) same) e)
 
-    i : ℕ
-    i = index (suc h) v
-
-    s1 : State
-    s1 = with-table s t i (pick 0) g h (upper (suc h) v)
-
-    one : Store
-    one = record { frame = t; index = i; value = table-entry (s .first) (pick 0) }
-
-    New : List Store
-    New = grow-stores h s1 g (pick 0) v (λ j. pick (suc j))
-
-    linked : Same (store (after-stores (s .word) (clear (pick 0))) one) (s1 .word)
-    linked = unfold with-table in same-store (after-stores (s .word) (clear (pick 0))) (upd (s .word) (pick 0) zeros) t i (table-entry (s .first) (pick 0)) (clear-same (pick 0) (s .word))
-
-    new : IH → Same (after-stores (s .word) (clear (pick 0) ++ (one ∷ New))) (grow h s1 g (pick 0) v (λ j. pick (suc j)) .state .word)
-    new ih = rw (after-append (clear (pick 0)) (one ∷ New) (s .word)) (unfold after-stores in
-        same-then (after-stores (store (after-stores (s .word) (clear (pick 0))) one) New) (after-stores (s1 .word) New) (grow h s1 g (pick 0) v (λ j. pick (suc j)) .state .word)
-        (same-after New (store (after-stores (s .word) (clear (pick 0))) one) (s1 .word) linked) (ih s1 g (pick 0) v (λ j. pick (suc j))))
-
-    at : IH → (x : Entry) → Same (after-stores (s .word) (into x (clear (pick 0) ++ (one ∷ New)) (λ t′. grow-stores h s g t′ v pick)))
-        (into x (grow h s1 g (pick 0) v (λ j. pick (suc j))) (λ t′. grow h s g t′ v pick) .state .word)
-    at ih empty = new ih
-    at ih (to-table t′) = ih s g t′ v pick
-    at ih (to-page f r) = new ih
-    at ih (other x) = new ih
+grow-end : (h : ℕ) (s : State) → Core s → (g t v : ℕ) (pick : ℕ → ℕ) → Choice s pick → missing-from s h t v ≤ free-frames s → s .kind t ≡ table g h (upper (suc h) v) → Made h s g t v pick
+unfolding grow grow-stores after-stores
+grow-end = grow-by Made (λ s c g t v pick a f i l. refl) (λ h s c g t v pick a t′ d e. rw d e) end-made
 
 abbrev Ends : State → Operation → State → Type 0
 Ends z o s′ = Same (after-stores (z .word) (stores-of z o)) (s′ .word)
@@ -114,16 +99,18 @@ map-end : (z : State) (c : Core z) (f g a r : ℕ) (pick : ℕ → ℕ) → Choi
 unfolding map stores-of with-mapping
 map-end z c f g a r pick ch =
     checked 5 λ e1. checked 14 λ e2. checked 7 λ e3. checked 8 λ e4. checked 4 λ e5. checked 9 λ e6. checked 10 λ e7. checked 3 λ e8.
-    let y = grown-for z c nothing-kept (nothing-ok z) g (a / 4096) pick e1 (address-low a e3) ch (leb-true (missing z g (a / 4096)) (free-frames z) e8) in
-    then-done (rw (after-append (grow-stores 3 z g (z .root g) (a / 4096) pick) (record { frame = x .last; index = a / 4096 % 512; value = page-entry (z .first) f r } ∷ []) (z .word)) (last (y .first)))
+    let l = address-low a e3 in
+    let room = leb-true (missing z g (a / 4096)) (free-frames z) e8 in
+    let y = grown-for z c nothing-kept (nothing-ok z) g (a / 4096) pick e1 l ch room in
+    then-done (rw (after-append (grow-stores 3 z g (z .root g) (a / 4096) pick) (record { frame = x .last; index = a / 4096 % 512; value = page-entry (z .first) f r } ∷ []) (z .word)) (last (y .first) (grow-end 3 z c g (z .root g) (a / 4096) pick ch room (root-serves (z .kind (z .root g)) g (a / 4096) (c .roots g e1) l))))
   where
     x : Grown
     x = grow 3 z g (z .root g) (a / 4096) pick
 
-    last : x .state .first ≡ z .first →
+    last : x .state .first ≡ z .first → Made 3 z g (z .root g) (a / 4096) pick →
         Same (after-stores (after-stores (z .word) (grow-stores 3 z g (z .root g) (a / 4096) pick)) (record { frame = x .last; index = a / 4096 % 512; value = page-entry (z .first) f r } ∷ [])) (with-page (x .state) (x .last) (a / 4096 % 512) f r g .word)
-    last e = unfold after-stores with-page in subst (λ (n : ℕ). Same (upd2 (after-stores (z .word) (grow-stores 3 z g (z .root g) (a / 4096) pick)) (x .last) (a / 4096 % 512) (page-entry (z .first) f r)) (upd2 (x .state .word) (x .last) (a / 4096 % 512) (page-entry n f r))) (sym e)
-        (same-store (after-stores (z .word) (grow-stores 3 z g (z .root g) (a / 4096) pick)) (x .state .word) (x .last) (a / 4096 % 512) (page-entry (z .first) f r) (grow-end 3 z g (z .root g) (a / 4096) pick))
+    last e m = unfold after-stores with-page in subst (λ (n : ℕ). Same (upd2 (after-stores (z .word) (grow-stores 3 z g (z .root g) (a / 4096) pick)) (x .last) (a / 4096 % 512) (page-entry (z .first) f r)) (upd2 (x .state .word) (x .last) (a / 4096 % 512) (page-entry n f r))) (sym e)
+        (same-store (after-stores (z .word) (grow-stores 3 z g (z .root g) (a / 4096) pick)) (x .state .word) (x .last) (a / 4096 % 512) (page-entry (z .first) f r) m)
 
 pub ends : (z : State) (c : Core z) (o : Operation) → Chooses z o → Then (Ends z o) (answer z o)
 unfolding answer stores-of after-stores create give take share unshare destroy invalidated becomes with-root without-guest clean

@@ -7,12 +7,10 @@ use Rattle.model.specs.Cache.{Access}
 use Rattle.model.specs.State.{State}
 use Rattle.model.specs.Operations.{done}
 use Rattle.model.specs.Machine.{Machine, SetUp, Operation, answer, Chooses, Reaches}
-use Rattle.moments.specs.Moments.{stores-of, Throughout, FineRun}
+use Rattle.moments.specs.Moments.{stores-of, Safe, Throughout, FineRun}
 use Rattle.model.specs.Theorems.Terms.{Allowed}
-use Rattle.moments.specs.Theorems.Moments.{Safe}
-use Rattle.model.specs.Invariant.Answer.{then-is}
 use Rattle.model.specs.Invariant.Allowed.{reach-allowed}
-use Rattle.moments.specs.Invariant.Moments.{inside}
+use Rattle.moments.specs.Invariant.Moments.{safe-inside}
 use Rattle.moments.specs.Invariant.Fine.{finely}
 
 pub reach-finely : {m z : Machine} → SetUp m → FineRun m z → (g : ℕ) (w : Access) (a : ℕ) → Reaches z g w a →
@@ -22,4 +20,4 @@ reach-finely x r g w a y = reach-allowed (finely x r) g w a y
 -- and so it is inside the next operation, after each of its stores
 pub moments-finely : {m z : Machine} → SetUp m → FineRun m z → (o : Operation) → Chooses (z .state) o → (s′ : State) → answer (z .state) o ≡ done s′ →
     Throughout (z .state) (Safe (z .state)) (z .caches) (z .state .word) (stores-of (z .state) o)
-moments-finely {z} x r o ch s′ e = then-is (answer (z .state) o) s′ (inside (z .state) (finely x r .core) (z .caches) (finely x r .kept) o ch) e
+moments-finely x r = safe-inside (finely x r)

@@ -3,25 +3,19 @@
 -- each, whatever the processor finds and keeps on the way, each guest reaches only what it was allowed to before the operation. And the stores end in the words of the state after.
 -- So a new table is all zero before anything leads to it, and a page that is being cleared is reached by nobody.
 use mathlib.Core.Path.{_≡_}
-use Prim.Native.Nat.{ℕ, _+_, _<_, _/_}
-use Rattle.model.specs.State.{State, reworded}
+use Prim.Native.Nat.{ℕ, _<_}
+use Rattle.model.specs.State.{State}
 use Rattle.model.specs.Operations.{done}
-use Rattle.model.specs.Cache.{Caches, Access, Reach}
 use Rattle.model.specs.Machine.{Machine, SetUp, Run, Operation, answer, Chooses}
-use Rattle.moments.specs.Moments.{stores-of, after-stores, Throughout}
-use Rattle.model.specs.Theorems.Terms.{Allowed}
+use Rattle.moments.specs.Moments.{stores-of, after-stores, Safe, Throughout}
 use Rattle.model.specs.Invariant.Answer.{then-is}
 use Rattle.model.specs.Invariant.Holds.{holds}
-use Rattle.moments.specs.Invariant.Moments.{inside}
+use Rattle.moments.specs.Invariant.Moments.{safe-inside}
 use Rattle.moments.specs.Invariant.StoresEnd.{ends}
-
--- with the words w in RAM and k kept, nobody reaches beyond what s allows
-abbrev pub Safe : State → Caches → (ℕ → ℕ → ℕ) → Type 0
-Safe s k w = (g : ℕ) (acc : Access) (a : ℕ) → Reach (reworded s w) k g acc a → (f : ℕ) × (a / 4096 ≡ s .first + f) × Allowed s g f acc
 
 pub moments : {m z : Machine} → SetUp m → Run m z → (o : Operation) → Chooses (z .state) o → (s′ : State) → answer (z .state) o ≡ done s′ →
     Throughout (z .state) (Safe (z .state)) (z .caches) (z .state .word) (stores-of (z .state) o)
-moments {z} x r o ch s′ e = then-is (answer (z .state) o) s′ (inside (z .state) (holds x r .core) (z .caches) (holds x r .kept) o ch) e
+moments x r = safe-inside (holds x r)
 
 pub last-moment : {m z : Machine} → SetUp m → Run m z → (o : Operation) → Chooses (z .state) o → (s′ : State) → answer (z .state) o ≡ done s′ →
     (f i : ℕ) → i < 512 → after-stores (z .state .word) (stores-of (z .state) o) f i ≡ s′ .word f i

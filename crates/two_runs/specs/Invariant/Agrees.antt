@@ -1,10 +1,9 @@
 -- The same ledger over other words: where the words of the tables are the same, every operation answers the same.
 -- What of the words is the same (Agrees): those of every table, and the bytes of what guest g may read.
 use mathlib.Core.Path.{_≡_, sym, ap, _∙_}
-use mathlib.Core.Bool.{true, false}
+use mathlib.Core.Bool.{true, false, true≢false}
 use mathlib.Core.Logic.{_⊎_, inl, inr}
 use Prim.Native.Nat.{ℕ, _<_, _/_, _%_}
-use native.Mathlib.Omega.{arith}
 use Rattle.model.specs.Base.{eq?, upd, upd-at, upd-other, upd2, upd2-at, upd2-other}
 use Rattle.model.specs.State.{Kind, byte-of, put-byte, tabled}
 use Rattle.model.specs.Changes.{zeros}
@@ -64,7 +63,7 @@ module _ (g : ℕ) (kind : ℕ → Kind) (shared a b : ℕ → ℕ → ℕ) (m :
       Agrees g kind shared (upd2 a f (o / 8) (put-byte (o % 8) (a f (o / 8)) x)) (upd2 b f (o / 8) (put-byte (o % 8) (b f (o / 8)) x))
   agrees-stored f o x lx no-table = record {
     tables = λ t e i.
-        let ne : t ≡ f → ⊥ = λ (p : t ≡ f). let z : true ≡ false = sym e ∙ ap (λ (y : ℕ). tabled (kind y)) p ∙ no-table in let z : _≡_ {A = ℕ} 0 1 = cc in omega arith in
+        let ne : t ≡ f → ⊥ = λ (p : t ≡ f). true≢false (sym e ∙ ap (λ (y : ℕ). tabled (kind y)) p ∙ no-table) in
         rw (upd2-other b f (o / 8) (put-byte (o % 8) (b f (o / 8)) x) t i (λ p q. ne p), upd2-other a f (o / 8) (put-byte (o % 8) (a f (o / 8)) x) t i (λ p q. ne p)) (m .tables t e i);
     pages = λ u e j k l n. elim (eq? u f) [
       | inr p ↦ rw (upd2-other a f (o / 8) (put-byte (o % 8) (a f (o / 8)) x) u j (λ y z. p y), upd2-other b f (o / 8) (put-byte (o % 8) (b f (o / 8)) x) u j (λ y z. p y)) (m .pages u e j k l n)
@@ -81,12 +80,9 @@ module _ (g : ℕ) (kind : ℕ → Kind) (shared a b : ℕ → ℕ → ℕ) (m :
   -- words of one frame change on one side, which holds no table and is not shown
   pub agrees-apart : (a′ : ℕ → ℕ → ℕ) (f : ℕ) → ((u i : ℕ) → (u ≡ f → ⊥) → a′ u i ≡ a u i) → tabled (kind f) ≡ false → reads g (kind f) (shared f g) ≡ false → Agrees g kind shared a′ b
   agrees-apart a′ f same no-table hid = record {
-    tables = λ t e i. m .tables t e i ∙ sym (same t i (λ (p : t ≡ f). apart (sym e ∙ ap (λ (y : ℕ). tabled (kind y)) p ∙ no-table)));
-    pages = λ u e j k l n. ap (byte-of k) (same u j (λ (p : u ≡ f). apart (sym e ∙ ap (λ (y : ℕ). reads g (kind y) (shared y g)) p ∙ hid))) ∙ m .pages u e j k l n;
+    tables = λ t e i. m .tables t e i ∙ sym (same t i (λ (p : t ≡ f). true≢false (sym e ∙ ap (λ (y : ℕ). tabled (kind y)) p ∙ no-table)));
+    pages = λ u e j k l n. ap (byte-of k) (same u j (λ (p : u ≡ f). true≢false (sym e ∙ ap (λ (y : ℕ). reads g (kind y) (shared y g)) p ∙ hid))) ∙ m .pages u e j k l n;
   }
-    where
-      apart : true ≡ false → ⊥
-      apart e = let z : _≡_ {A = ℕ} 0 1 = cc in omega arith
 
 -- from the other side
 pub agrees-turned : (g : ℕ) (kind : ℕ → Kind) (shared a b : ℕ → ℕ → ℕ) → Agrees g kind shared a b → Agrees g kind shared b a

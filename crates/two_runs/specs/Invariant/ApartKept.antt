@@ -3,7 +3,7 @@ use mathlib.Core.Path.{_≡_, refl, sym, ap, _∙_}
 use mathlib.Core.Bool.{Bool, true, false, cond}
 use mathlib.Core.Logic.{_⊎_, inl, inr}
 use mathlib.Core.Option.{none, some}
-use Prim.Native.Nat.{ℕ, zero, suc, _+_, _*_, _<_, _/_, _%_}
+use Prim.Native.Nat.{ℕ, zero, suc, _+_, _<_, _/_, _%_}
 use native.Mathlib.Omega.{arith}
 use native.Mathlib.Nat.{div-add-mod'}
 use lib.Dec.{eqb}
@@ -19,17 +19,17 @@ use Rattle.model.specs.Cache.{Caches, nothing-kept, Table, from-root, from-word
 use Rattle.model.specs.Machine.{Machine, Operation, Create, Give, Take, Map, Unmap, Share, Unshare, Destroy, Invalidated, answer, Chooses, keeps, Run, SetUp}
 use Rattle.model.specs.Invariant.Kinds.{sort, clash, kind-from}
 use Rattle.model.specs.Invariant.Core.{Core, Kept, low, in-room}
-use Rattle.model.specs.Invariant.Way.{root-serves, step-kind, leaf-kind, leaf-from, leaf-there, translate-from, translate-at}
+use Rattle.model.specs.Invariant.Way.{root-serves, step-kind, leaf-kind, leaf-from, translate-from}
 use Rattle.model.specs.Invariant.Pages.{may-room}
-use Rattle.model.specs.Invariant.Found.{out-fits, out-stale, table-found}
+use Rattle.model.specs.Invariant.Found.{traced}
 use Rattle.model.specs.Invariant.Destroy.{Was, stays, was-table, was-page, was}
 use Rattle.model.specs.Invariant.Invalidated.{released-from}
 use Rattle.model.specs.Invariant.MapUnmap.{address-low, some-is, grown-for, without-is}
 use Rattle.model.specs.Invariant.Answer.{Then, then-refuse, then-done, then-is, checked, Sound}
 use Rattle.model.specs.Invariant.Holds.{Holds, holds, answer-good, nothing-ok}
 use Rattle.model.specs.Invariant.Orderly.{Orderly, orderly}
-use Rattle.model.specs.Invariant.Linked.{Linked, comes-there}
-use Rattle.model.specs.Invariant.Hung.{hung}
+use Rattle.model.specs.Invariant.Linked.{Linked}
+use Rattle.model.specs.Invariant.Hung.{hung, last-low, entry-translates}
 use Rattle.two_runs.specs.Invariant.Alike.{Closed}
 
 -- what the tables say, the processor finds
@@ -72,29 +72,6 @@ module _ (s : State) (c : Core s) (k : Caches) (g v : ℕ) where
       ap (descriptor 0) (is-to-page (s .first) (s .word t (v % 512)) f r (w .2)) ∙ descriptor-page (s .first) f r (may-room s c g f r m) (page-low (s .first) (s .word t (v % 512)) f r (w .2)) in
       let x = way-down 3 (s .root g) (root-serves (s .kind (s .root g)) g v (c .roots g (lf .0)) l) (root-table (lf .0) l) t (lf .1) in
       read-off 0 (s .first + t) t (s .first + f) x refl (low s c t (table g 0 (v / 512)) kt refl) d refl
-
--- tables serve pages below 2^36
-module _ (s : State) (c : Core s) (l : Linked s) where
-  abbrev Below : (d p : ℕ) → Type 0
-  Below zero p = p ≡ 0
-  Below (suc d) p = Below d (p / 512)
-
-  below : (d h t g p : ℕ) → h + d ≡ 3 → s .kind t ≡ table g h p → Below d p
-  below zero h t g p e k = elim (l .hangs t g h p k) [
-    | inl x ↦ let r = c .roots g (c .table-exists t g h p k) in let x1 = x .1 in cc
-    | inr x ↦ let z = x .3 in absurd (omega arith)
-  ]
-  below (suc d) h t g p e k = elim (l .hangs t g h p k) [
-    | inl x ↦ let z = x .0 in absurd (omega arith)
-    | inr x ↦ below d (suc h) (x .0) g (p / 512) (omega arith) (x .1)
-  ]
-
-  pub last-low : (t g v : ℕ) → s .kind t ≡ table g 0 (v / 512) → v < pages
-  last-low t g v k = let z : v / 512 / 512 / 512 / 512 ≡ 0 = below 3 0 t g (v / 512) (omega arith) k in omega arith
-
-  -- an entry of a last table is what its page translates to
-  pub entry-translates : (t g v f r : ℕ) → s .kind t ≡ table g 0 (v / 512) → entry-at s t (v % 512) ≡ to-page f r → translate s g v ≡ some (f, r)
-  entry-translates t g v f r k e = translate-at s g v t f r (leaf-there s c g v (c .table-exists t g 0 (v / 512) k) ∙ comes-there s c l g v t k) e
 
 -- only destroy makes tables drain, and what drains keeps its words; a report for g leaves no table that drains for g
 abbrev pub reported : (g : ℕ) → Operation → Bool
@@ -279,32 +256,14 @@ module _ (s : State) (k : Caches) (c : Core s) (q : Kept s k) (l : Linked s) (g 
   Kept-or-now v f r = k .page-kept g v (s .first + f) r ⊎ ((v < pages) × (translate s g v ≡ some (f, r)))
 
   pub found-is : {v x r : ℕ} → Translation s k g v x r → (f : ℕ) → x ≡ s .first + f → Kept-or-now v f r
-  found-is {v} {x} {r} (kept a) f e = inl (rw e at a)
-  found-is {v} (read-off {x} {r} h y t p a e n d o) f x= = go (table-found s k c q g a)
-    where
-      same : (h f′ : ℕ) → h ≡ 0 → p ≡ s .first + f′ → x ≡ inside h p v → f′ ≡ f
-      same zero f′ z p= o = let o′ : x ≡ p = unfold inside in o in omega arith
-      same (suc h) f′ z p= o = absurd (omega arith)
-
-      live : (h f′ : ℕ) → h ≡ 0 → f′ ≡ f → s .kind t ≡ table g h (upper (suc h) v) → entry-at s t (index h v) ≡ to-page f′ r → Kept-or-now v f r
-      live zero f′ z f= b n = unfold upper in inr (last-low s c l t g v b, entry-translates s c l t g v f r b (n ∙ ap (λ (i : ℕ). to-page i r) f=))
-      live (suc h) f′ z f= b n = absurd (omega arith)
-
-      gone : (h f′ : ℕ) → h ≡ 0 → f′ ≡ f → s .kind t ≡ draining-table g h (upper (suc h) v) → entry-at s t (index h v) ≡ to-page f′ r → Kept-or-now v f r
-      gone zero f′ z f= b n = unfold upper in inl (stale t v f r b (n ∙ ap (λ (i : ℕ). to-page i r) f=))
-      gone (suc h) f′ z f= b n = absurd (omega arith)
-
-      go : (t′ : ℕ) × (y ≡ s .first + t′) × ((s .kind t′ ≡ table g h (upper (suc h) v)) ⊎ (s .kind t′ ≡ draining-table g h (upper (suc h) v))) → Kept-or-now v f r
-      go b =
-          let b1 = b .1 in
-          let t= : b .0 ≡ t = omega arith in
-          elim (rw t= at (b .2)) [
-            | inl z ↦
-                let n = out-fits s c g h (upper (suc h) v * 512 + index h v) (s .word t (index h v)) p r (c .tables t g h (upper (suc h) v) z (index h v) (omega arith)) d in
-                let n1 = n .1 in
-                live h (n1 .0) (n .0) (same h (n1 .0) (n .0) (n1 .1) o) z (n1 .2)
-            | inr z ↦
-                let n = out-stale s c g h (upper (suc h) v * 512 + index h v) (s .word t (index h v)) p r (c .draining t g h (upper (suc h) v) z (index h v) (omega arith)) d in
-                let n1 = n .1 in
-                gone h (n1 .0) (n .0) (same h (n1 .0) (n .0) (n1 .1) o) z (n1 .2)
-          ]
+  found-is {v} {x} {r} y f x= = elim (traced s k c q g y) [
+    | inl a ↦ inl (rw x= at a)
+    | inr b ↦
+        let b2 = b .2 in
+        let f= : b .1 ≡ f = omega arith in
+        let n = b .3 ∙ ap (λ (i : ℕ). to-page i r) f= in
+        elim (b .4) [
+          | inl m ↦ inr (last-low s c l (b .0) g v (m .0), entry-translates s c l (b .0) g v f r (m .0) n)
+          | inr m ↦ inl (stale (b .0) v f r (m .0) n)
+        ]
+  ]

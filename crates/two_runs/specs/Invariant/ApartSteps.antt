@@ -1,6 +1,6 @@
 -- A step of one machine as guest g sees it. What it reads stays the same (Same-view), unless the operation concerns g.
 use mathlib.Core.Path.{_≡_, refl, sym, ap, _∙_}
-use mathlib.Core.Bool.{Bool, true, false, not, _&&_, _||_, cond}
+use mathlib.Core.Bool.{Bool, true, false, not, _&&_, _||_, cond, true≢false}
 use mathlib.Core.Logic.{_⊎_, inl, inr, _↔_}
 use mathlib.Core.Option.{some}
 use Prim.Native.Nat.{ℕ, _+_, _<_, _/_, _%_}
@@ -37,7 +37,7 @@ run-on (then a r) x = then a (run-on r x)
 stored-word : {m : Machine} → Holds m → {h f o x : ℕ} → Stores m h f o x → (t : ℕ) → tabled (m .state .kind t) ≡ true → (i : ℕ) → stored (m .state) f o x .word t i ≡ m .state .word t i
 unfolding stored
 stored-word {m} k {h} {f} {o} {x} r t e i = upd2-other (m .state .word) f (o / 8) (put-byte (o % 8) (m .state .word f (o / 8)) x) t i
-    (λ (p : t ≡ f) q. let z : true ≡ false = sym e ∙ ap (λ (u : ℕ). tabled (m .state .kind u)) p ∙ stores-page k r in let z : _≡_ {A = ℕ} 0 1 = cc in omega arith)
+    (λ (p : t ≡ f) q. true≢false (sym e ∙ ap (λ (u : ℕ). tabled (m .state .kind u)) p ∙ stores-page k r))
 
 called-recalls : {m : Machine} → Sane m → (o : Operation) → Chooses (m .state) o → Recalls (call m o .state) (call m o .caches)
 unfolding call
@@ -285,7 +285,7 @@ pub is-shown : (s : State) (g f : ℕ) → (role-of s g f ≡ 0 → ⊥) → sho
 is-shown s g f n = rw (reads-role g (s .kind f) (s .shared f g), ne-eqb (role-of s g f) 0 n)
 
 pub shown-role : (s : State) (g f : ℕ) → shown s g f ≡ true → role-of s g f ≡ 0 → ⊥
-shown-role s g f e n = let z : true ≡ false = sym e ∙ reads-role g (s .kind f) (s .shared f g) ∙ ap (λ (k : ℕ). not (eqb k 0)) n in let z : _≡_ {A = ℕ} 0 1 = cc in omega arith
+shown-role s g f e n = true≢false (sym e ∙ reads-role g (s .kind f) (s .shared f g) ∙ ap (λ (k : ℕ). not (eqb k 0)) n)
 
 pub stored-apart : (s : State) (f o x u : ℕ) → (u ≡ f → ⊥) → Same-bytes (stored s f o x) s u u
 unfolding stored byte

@@ -1,15 +1,14 @@
 -- Over words that agree, an operation answers the same, and its effect is the same but for words that nobody looked at: the nine operations.
 use mathlib.Core.Path.{_≡_, refl, sym, ap, _∙_}
-use mathlib.Core.Bool.{Bool, true, false, not, _&&_, _||_, cond}
+use mathlib.Core.Bool.{Bool, true, false, true≢false, not, _&&_, _||_, cond}
 use mathlib.Core.Logic.{_⊎_, inl, inr}
 use mathlib.Core.Option.{some}
 use Prim.Native.Nat.{ℕ, zero, suc, _+_, _*_, _≤_, _<_, _/_, _%_}
 use native.Mathlib.Omega.{arith}
-use native.Mathlib.Nat.{div-add-mod'}
 use lib.Dec.{eqb, ltb, leb}
 use borrow.Author.Tests.{leb-true}
-use Rattle.model.specs.Base.{eq?, bool?, and-true, upd, upd-same, upd-at, upd-other, upd2, upd2-at, upd2-other}
-use Rattle.model.specs.State.{State, Kind, monitor, free, table, draining-table, page, draining-page, is-page-of, free-frames, pages, byte, reworded, tabled}
+use Rattle.model.specs.Base.{eq?, bool?, and-true, upd, upd-at, upd-other, upd2, upd2-at, upd2-other}
+use Rattle.model.specs.State.{State, Kind, free, table, draining-table, page, draining-page, is-page-of, free-frames, pages, byte, reworded, tabled}
 use Rattle.model.specs.Entry.{Entry, empty, to-table, to-page, other, entry, page-entry, table-entry}
 use Rattle.model.specs.Translate.{upper, index, entry-at, into, leaf, translate, missing-from, missing}
 use Rattle.model.specs.Changes.{Choice, zeros, becomes, with-root, with-table, Grown, grow, with-page, with-mapping, without-page, without-mapping, drained, without-guest, released, clean}
@@ -19,9 +18,9 @@ use Rattle.two_runs.specs.Theorems.TwoRunsTerms.{reads, Same-bytes, Show
 use Rattle.model.specs.Invariant.Kinds.{page-of-is}
 use Rattle.model.specs.Invariant.Core.{Core}
 use Rattle.model.specs.Invariant.Way.{root-serves, step-kind, descend-same, translate-from}
-use Rattle.model.specs.Invariant.NewTable.{linked-new, linked-core}
-use Rattle.model.specs.Invariant.Choice.{first-free, fewer, rest-chosen}
-use Rattle.model.specs.Invariant.Grow.{zero-missing}
+use Rattle.model.specs.Invariant.Destroy.{Was, stays, was-table, was-page, was}
+use Rattle.model.specs.Invariant.Invalidated.{stays-or-free}
+use Rattle.model.specs.Invariant.Grow.{Links, linked, grow-by}
 use Rattle.model.specs.Invariant.MapUnmap.{address-low, some-is}
 use Rattle.model.specs.Invariant.Effects.{same-translate}
 use Rattle.two_runs.specs.Invariant.Agrees.{Same-frame, Agrees, agrees-set, agrees-zero, agrees-less}
@@ -43,48 +42,18 @@ both-checked {P} {b} {b′} a {o} {o′} e h = rw e (go b h)
 abbrev pub Echo : (g : ℕ) → State → State → Type 0
 Echo g s s′ = (w : ℕ → ℕ → ℕ) × (s′ ≡ reworded s w) × Agrees g (s .kind) (s .shared) (s .word) w
 
--- what is shown after a change of kinds was shown before
-drained-reads : (g h : ℕ) (x : Kind) (how : ℕ) → reads g (drained h x) how ≡ true → reads g x how ≡ true
-unfolding drained
-drained-reads g h monitor how e = e
-drained-reads g h free how e = e
-drained-reads g h (table a n p) how e = elim (bool? (eqb a h)) [ inl q ↦ rw q at e | inr q ↦ rw q at e ]
-drained-reads g h (draining-table a n p) how e = e
-drained-reads g h (page a) how e = elim (bool? (eqb a h)) [
-  | inl q ↦ let z : eqb a g ≡ true = rw q at e in rw z
-  | inr q ↦ rw q at e
-]
-drained-reads g h (draining-page a) how e = e
+-- a test of a frame that is passed after guest h is destroyed, or its invalidation reported, was passed before
+module _ (h : ℕ) (T : Kind → Bool) where
+  drained-passed : ((n p : ℕ) → T (draining-table h n p) ≡ true → T (table h n p) ≡ true) → (T (draining-page h) ≡ true → T (page h) ≡ true) → (x : Kind) → T (drained h x) ≡ true → T x ≡ true
+  drained-passed a b x e = go (was h x)
+    where
+      go : Was h x → T x ≡ true
+      go (stays p q r) = sym (ap T p) ∙ e
+      go (was-table n p q r) = ap T q ∙ a n p (sym (ap T r) ∙ e)
+      go (was-page q r) = ap T q ∙ b (sym (ap T r) ∙ e)
 
-released-reads : (g h : ℕ) (x : Kind) (how : ℕ) → reads g (released h x) how ≡ true → reads g x how ≡ true
-unfolding released
-released-reads g h monitor how e = e
-released-reads g h free how e = e
-released-reads g h (table a n p) how e = e
-released-reads g h (draining-table a n p) how e = elim (bool? (eqb a h)) [ inl q ↦ rw q at e | inr q ↦ rw q at e ]
-released-reads g h (page a) how e = e
-released-reads g h (draining-page a) how e = elim (bool? (eqb a h)) [
-  | inl q ↦ let z : false ≡ true = rw q at e in cc
-  | inr q ↦ rw q at e
-]
-
-drained-tabled : (h : ℕ) (x : Kind) → tabled (drained h x) ≡ true → tabled x ≡ true
-unfolding drained
-drained-tabled h monitor e = e
-drained-tabled h free e = e
-drained-tabled h (table a n p) e = refl
-drained-tabled h (draining-table a n p) e = e
-drained-tabled h (page a) e = elim (bool? (eqb a h)) [ inl q ↦ rw q at e | inr q ↦ rw q at e ]
-drained-tabled h (draining-page a) e = e
-
-released-tabled : (h : ℕ) (x : Kind) → tabled (released h x) ≡ true → tabled x ≡ true
-unfolding released
-released-tabled h monitor e = e
-released-tabled h free e = e
-released-tabled h (table a n p) e = refl
-released-tabled h (draining-table a n p) e = refl
-released-tabled h (page a) e = e
-released-tabled h (draining-page a) e = elim (bool? (eqb a h)) [ inl q ↦ rw q at e | inr q ↦ rw q at e ]
+  released-passed : T free ≡ false → (x : Kind) → T (released h x) ≡ true → T x ≡ true
+  released-passed n x e = elim (stays-or-free h x) [ inl a ↦ sym (ap T a) ∙ e | inr a ↦ absurd (true≢false (sym e ∙ ap T a ∙ n)) ]
 
 module _ (g : ℕ) (s : State) (w : ℕ → ℕ → ℕ) (m : Agrees g (s .kind) (s .shared) (s .word) w) where
   -- the small changes
@@ -108,11 +77,11 @@ module _ (g : ℕ) (s : State) (w : ℕ → ℕ → ℕ) (m : Agrees g (s .kind)
 
   guest-echo : (h : ℕ) → Echo g (without-guest s h) (without-guest (reworded s w) h)
   unfolding without-guest
-  guest-echo h = (w, refl, agrees-less g (s .kind) (s .shared) (s .word) w m (λ f. drained h (s .kind f)) (s .shared) (λ t e. drained-tabled h (s .kind t) e) (λ f e. inl (drained-reads g h (s .kind f) (s .shared f g) e)))
+  guest-echo h = (w, refl, agrees-less g (s .kind) (s .shared) (s .word) w m (λ f. drained h (s .kind f)) (s .shared) (λ t. drained-passed h tabled (λ n p e. refl) (λ e. e) (s .kind t)) (λ f e. inl (drained-passed h (λ x. reads g x (s .shared f g)) (λ n p e. e) (λ (e : eqb h g ≡ true). rw e) (s .kind f) e)))
 
   clean-echo : (h : ℕ) → Echo g (clean s h) (clean (reworded s w) h)
   unfolding clean
-  clean-echo h = (w, refl, agrees-less g (s .kind) (s .shared) (s .word) w m (λ f. released h (s .kind f)) (s .shared) (λ t e. released-tabled h (s .kind t) e) (λ f e. inl (released-reads g h (s .kind f) (s .shared f g) e)))
+  clean-echo h = (w, refl, agrees-less g (s .kind) (s .shared) (s .word) w m (λ f. released h (s .kind f)) (s .shared) (λ t. released-passed h tabled refl (s .kind t)) (λ f e. inl (released-passed h (λ x. reads g x (s .shared f g)) refl (s .kind f) e)))
 
   given-echo : (f h : ℕ) → Echo g (becomes s f (page h) (upd (s .word) f zeros) (upd (s .shared) f zeros)) (becomes (reworded s w) f (page h) (upd w f zeros) (upd (s .shared) f zeros))
   unfolding becomes
@@ -179,46 +148,25 @@ module _ (g : ℕ) (s : State) (w : ℕ → ℕ → ℕ) (m : Agrees g (s .kind)
 abbrev Grown-echo : (g : ℕ) → Grown → Grown → Type 0
 Grown-echo g x x′ = (w : ℕ → ℕ → ℕ) × (x′ ≡ record { state = reworded (x .state) w; last = x .last }) × Agrees g (x .state .kind) (x .state .shared) (x .state .word) w
 
-grown-echo : (g h : ℕ) (s : State) (c : Core s) (w : ℕ → ℕ → ℕ) → Agrees g (s .kind) (s .shared) (s .word) w → (n t v : ℕ) (pick : ℕ → ℕ) → Choice s pick → missing-from s h t v ≤ free-frames s →
-    s .kind t ≡ table n h (upper (suc h) v) → Grown-echo g (grow h s n t v pick) (grow h (reworded s w) n t v pick)
-unfolding grow upper
-grown-echo g zero s c w m n t v pick ch l a = (w, refl, m)
-grown-echo g (suc h) s c w m n t v pick ch l a = rw (table-words g s w m c t n (suc h) (upper (suc (suc h)) v) a i) (at (grown-echo g h) (entry-at s t i) refl (unfold missing-from in l))
-  where
-    IH : Type 0
-    IH = (s : State) (c : Core s) (w : ℕ → ℕ → ℕ) → Agrees g (s .kind) (s .shared) (s .word) w → (n t v : ℕ) (pick : ℕ → ℕ) → Choice s pick → missing-from s h t v ≤ free-frames s →
-        s .kind t ≡ table n h (upper (suc h) v) → Grown-echo g (grow h s n t v pick) (grow h (reworded s w) n t v pick)
+module _ (g : ℕ) where
+  abbrev Echoes : (h : ℕ) (s : State) (n t v : ℕ) (pick : ℕ → ℕ) → Type 0
+  Echoes h s n t v pick = (w : ℕ → ℕ → ℕ) → Agrees g (s .kind) (s .shared) (s .word) w → Grown-echo g (grow h s n t v pick) (grow h (reworded s w) n t v pick)
 
-    i : ℕ
-    i = index (suc h) v
+  echo-there : (h : ℕ) (s : State) → Core s → (n t v : ℕ) (pick : ℕ → ℕ) → s .kind t ≡ table n (suc h) (upper (suc (suc h)) v) → (t′ : ℕ) → entry-at s t (index (suc h) v) ≡ to-table t′ → Echoes h s n t′ v pick → Echoes (suc h) s n t v pick
+  unfolding grow
+  echo-there h s c n t v pick a t′ d e w m = rw (table-words g s w m c t n (suc h) (upper (suc (suc h)) v) a (index (suc h) v), d) (e w m)
 
-    New : State → Grown
-    New s = grow h (with-table s t i (pick 0) n h (upper (suc h) v)) n (pick 0) v (λ j. pick (suc j))
+  echo-made : (h : ℕ) (s : State) (n t v : ℕ) (pick : ℕ → ℕ) → Links h s n t v pick → Echoes h (linked h s n t v pick) n (pick 0) v (λ j. pick (suc j)) → Echoes (suc h) s n t v pick
+  unfolding grow
+  echo-made h s n t v pick x e w m =
+      let i = index (suc h) v in
+      let w′ = upd2 (upd w (pick 0) zeros) t i (table-entry (s .first) (pick 0)) in
+      let same : linked h (reworded s w) n t v pick ≡ reworded (linked h s n t v pick) w′ = unfold with-table in refl in
+      rw (table-words g s w m (x .core) t n (suc h) (upper (suc (suc h)) v) (x .above) i, x .was, same) (e w′ (table-agrees g s w m t i (pick 0) n h (upper (suc h) v)))
 
-    linked-reworded : with-table (reworded s w) t i (pick 0) n h (upper (suc h) v) ≡ reworded (with-table s t i (pick 0) n h (upper (suc h) v)) (upd2 (upd w (pick 0) zeros) t i (table-entry (s .first) (pick 0)))
-    linked-reworded = unfold with-table in refl
-
-    new : IH → entry-at s t i ≡ empty → suc h ≤ free-frames s → Grown-echo g (New s) (New (reworded s w))
-    new ih e l =
-        let some : 0 < free-frames s = omega arith in
-        let f = first-free s c pick ch some in
-        let z = div-add-mod' (upper (suc h) v) 512 in
-        let clear = linked-new s c t i (pick 0) n h (upper (suc (suc h)) v) (upper (suc h) v) a (omega arith) e z f (pick 0) refl in
-        let k = zero-missing (with-table s t i (pick 0) n h (upper (suc h) v)) (pick 0) clear h v in
-        let less = fewer s c pick ch some t i n h (upper (suc h) v) in
-        rw linked-reworded
-        (ih (with-table s t i (pick 0) n h (upper (suc h) v))
-        (linked-core s c t i (pick 0) n h (upper (suc (suc h)) v) (upper (suc h) v) a (omega arith) e z f)
-        (upd2 (upd w (pick 0) zeros) t i (table-entry (s .first) (pick 0))) (table-agrees g s w m t i (pick 0) n h (upper (suc h) v))
-        n (pick 0) v (λ j. pick (suc j)) (rest-chosen s c pick ch some t i n h (upper (suc h) v)) (rw k (omega arith))
-        (unfold with-table in upd-same (s .kind) (pick 0) (table n h (upper (suc h) v))))
-
-    at : IH → (e : Entry) → entry-at s t i ≡ e → into e (suc h) (λ t′. missing-from s h t′ v) ≤ free-frames s →
-        Grown-echo g (into e (New s) (λ t′. grow h s n t′ v pick)) (into e (New (reworded s w)) (λ t′. grow h (reworded s w) n t′ v pick))
-    at ih empty e l = new ih e l
-    at ih (to-table t′) e l = ih s c w m n t′ v pick ch l (step-kind s c n h t v t′ a e)
-    at ih (to-page f r) e l = absurd (rw e at (c .tables t n (suc h) (upper (suc (suc h)) v) a i (omega arith)))
-    at ih (other x) e l = absurd (rw e at (c .tables t n (suc h) (upper (suc (suc h)) v) a i (omega arith)))
+  grown-echo : (h : ℕ) (s : State) → Core s → (n t v : ℕ) (pick : ℕ → ℕ) → Choice s pick → missing-from s h t v ≤ free-frames s → s .kind t ≡ table n h (upper (suc h) v) → Echoes h s n t v pick
+  unfolding grow
+  grown-echo = grow-by Echoes (λ s c n t v pick a w m. (w, refl, m)) echo-there echo-made
 
 -- bytes by number, and by word
 pub frame-bytes : (s s′ : State) (f f′ : ℕ) → Same-bytes s s′ f f′ → Same-frame (s .word f) (s′ .word f′)
@@ -244,7 +192,7 @@ module _ (g : ℕ) (s : State) (c : Core s) (w : ℕ → ℕ → ℕ) (m : Agree
       both-checked 10 (rw (same-pages g s w m c h (a / 4096) (address-low a e3))) λ e7.
       both-checked 3 (rw (same-missing g s w m c h (a / 4096) e1 (address-low a e3))) λ e8.
       let l = address-low a e3 in
-      let x = grown-echo g 3 s c w m h (s .root h) (a / 4096) pick ch (leb-true (missing s h (a / 4096)) (free-frames s) e8) (root-serves (s .kind (s .root h)) h (a / 4096) (c .roots h e1) l) in
+      let x = grown-echo g 3 s c h (s .root h) (a / 4096) pick ch (leb-true (missing s h (a / 4096)) (free-frames s) e8) (root-serves (s .kind (s .root h)) h (a / 4096) (c .roots h e1) l) w m in
       let y = grow 3 s h (s .root h) (a / 4096) pick in
       rw (x .1) (both-done (page-echo g (y .state) (x .0) (x .2) (y .last) (a / 4096 % 512) f r h))
 
