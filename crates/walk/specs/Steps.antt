@@ -26,16 +26,19 @@ step-read rights ia level (some d) = step-of rights ia level d
 unfoldable pub step-at : List ℕ → ℕ → (ℕ → Bool) → ℕ → ℕ → ℕ → Step
 step-at m b rights ia level a = step-read rights ia level (read-at m b a)
 
--- where n descriptors had been fetched before
+-- what is told of a walk before which n descriptors had been fetched
+unfoldable pub tells : {R A : Type 0} → (R → ℕ → A) → ℕ → Walked R → A
+tells say n w = say (w .result) (n + length (w .fetched))
+
 abbrev pub end-by : One → ℕ → Ended
 end-by (reached a) n = Reached a n
 end-by (failed kind level) n = Failed kind level n
 
-unfoldable pub ended : ℕ → Walked One → Ended
-ended n w = end-by (w .result) (n + length (w .fetched))
+abbrev pub ended : ℕ → Walked One → Ended
+ended = tells end-by
 
-unfoldable pub told : ℕ → Walked Both → Answer
-told n w = tell (w .result) (n + length (w .fetched))
+abbrev pub told : ℕ → Walked Both → Answer
+told = tells tell
 
 -- a walk that stands at a table of level 3 - left
 abbrev pub rest-2 : List ℕ → ℕ → ℕ → ℕ → ℕ → ℕ → Walked One
@@ -46,11 +49,14 @@ rest-1 m b root2 access el va left table = walk-from (rules-1 m b root2 access e
 
 -- a turn of stage 1 at a level, from a table, where n descriptors had been fetched: it told the answer, or the walk goes on
 module _ (m : List ℕ) (b root2 access el va level table n : ℕ) where
-  abbrev pub Turns : Turn → Type 0
-  Turns (Told x) = x ≡ told n (rest-1 m b root2 access el va (3 - level) table)
-  Turns (Next t k) =
+  abbrev pub turn-to : Turn → Type 0
+  turn-to (Told x) = x ≡ told n (rest-1 m b root2 access el va (3 - level) table)
+  turn-to (Next t k) =
       (level < 3) × (t < 2 ^ 48) × (k ≤ n + 5)
       × (told n (rest-1 m b root2 access el va (3 - level) table) ≡ told k (rest-1 m b root2 access el va (3 - (level + 1)) t))
+
+  pub record Turns (x : Turn) : Type 0 where
+    pub so : turn-to x
 
 -- the answer of a walk whose last part is stage 2, which ended so
 abbrev pub Finished : Ended → Answer → Type 0

@@ -4,7 +4,7 @@ use Prim.Native.Nat.{ℕ, zero, suc, _+_, _*_, _-_, _<_, _/_, _%_, _^_}
 use native.Mathlib.Omega.{arith}
 use lib.Dec.{eqb}
 use Rattle.descriptor.specs.Descriptor.{bit, address, allows-2}
-use Rattle.walk.proofs.Laws.Level.{allows-read, allows-write, allows-execute}
+use Rattle.walk.proofs.Laws.Level.{rights-at}
 use Rattle.model.specs.State.{pages}
 use Rattle.model.specs.Entry.{table-entry, page-entry}
 use Rattle.model.specs.Cache.{Access, reading, writing, executing, grants}
@@ -78,6 +78,6 @@ module _ (first f r : ℕ) (l : first + f < pages) where
 
   pub page-allows : (w : Access) → allows-2 (access w) (page-entry first f r) ≡ grants r w
   unfolding page-entry
-  page-allows reading = allows-read _ ∙ ap (λ (x : ℕ). eqb x 1) (bits-read (first + f) (r % 2) (r / 2 % 2) (1 - r / 4 % 2) l (omega arith) (omega arith) (omega arith))
-  page-allows writing = allows-write _ ∙ ap (λ (x : ℕ). eqb x 1) (bits-write (first + f) (r % 2) (r / 2 % 2) (1 - r / 4 % 2) l (omega arith) (omega arith) (omega arith))
-  page-allows executing = allows-execute _ ∙ ap (λ (x : ℕ). eqb x 0) (bits-never (first + f) (r % 2) (r / 2 % 2) (1 - r / 4 % 2) l (omega arith) (omega arith) (omega arith)) ∙ contrary (r / 4 % 2) (omega arith)
+  page-allows reading = rights-at 0 _ ∙ ap (λ (x : ℕ). eqb x 1) (bits-read (first + f) (r % 2) (r / 2 % 2) (1 - r / 4 % 2) l (omega arith) (omega arith) (omega arith))
+  page-allows writing = rights-at 1 _ ∙ ap (λ (x : ℕ). eqb x 1) (bits-write (first + f) (r % 2) (r / 2 % 2) (1 - r / 4 % 2) l (omega arith) (omega arith) (omega arith))
+  page-allows executing = rights-at 2 _ ∙ ap (λ (x : ℕ). eqb x 0) (bits-never (first + f) (r % 2) (r / 2 % 2) (1 - r / 4 % 2) l (omega arith) (omega arith) (omega arith)) ∙ contrary (r / 4 % 2) (omega arith)

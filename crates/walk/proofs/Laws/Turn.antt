@@ -114,17 +114,17 @@ module _ (m : List ℕ) (b access ipa level table : ℕ) (le : level ≤ 3) wher
       ∙ fetched-step (rules-2 access) ipa level (slot level ipa table) (ends (failed WalkAbort level)) (rest-2 m b access ipa (3 - (level + 1)))
       (read-at m b (slot level ipa table))
 
-module _ (m : List ℕ) (b root2 access el va level table : ℕ) (le : level ≤ 3) where
+module _ (m : List ℕ) (b root2 access el va level : ℕ) where
   -- where the descriptor was reached at the physical address a
   abbrev pub visited-1 : ℕ → Walked Both
   visited-1 a =
       replay (rules-1 m b root2 access el) va level a (ends (fault WalkAbort 1 level)) (rest-1 m b root2 access el va (3 - (level + 1)))
       (step-at m b (allows 1 el access) va level a)
 
-  pub turn-1 : rest-1 m b root2 access el va (3 - level) table
+  pub turn-1 : (table : ℕ) → level ≤ 3 → rest-1 m b root2 access el va (3 - level) table
       ≡ through (stage-2 m b root2 0 (slot level va table)) (λ kind level2. during kind level2 level) visited-1
   unfolding fetch-1 rules-1 step-at allows
-  turn-1 =
+  turn-1 table le =
       turn (rules-1 m b root2 access el) va (fetch-1 m b root2) level table le
       ∙ ap (through (stage-2 m b root2 0 (slot level va table)) (λ kind level2. during kind level2 level))
       (λ i a. fetched-step (rules-1 m b root2 access el) va level a (ends (fault WalkAbort 1 level)) (rest-1 m b root2 access el va (3 - (level + 1)))
