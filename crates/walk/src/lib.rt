@@ -129,7 +129,7 @@ pub fn stage2(ram: &[u8], base: u64, frames: u64, root: u64, ipa: u64, access: u
     ensures { λ r. ⌜ r ≡ answer-2 (now (ram .entry)) base frames root ipa access ⌝ }
 {
     if fits_stage2(ram.len(), base, frames, root, ipa, access) {
-        return stage_1::finish(stage_2::walk(ram, base, root, access, ipa, 0));
+        return stage_2::last(ram, base, root, access, ipa, 0);
     }
     Answer::Refused
 }

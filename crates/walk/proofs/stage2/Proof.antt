@@ -3,7 +3,7 @@
 use mathlib.Core.Path.{_∙_, sym}
 use Rattle.walk.specs.Both.{answer-2}
 use Rattle.walk.proofs.Laws.Bounds.{stage2-root}
-use Rattle.walk.proofs.Laws.Walk.{stage-2-alone}
+use Rattle.walk.proofs.Laws.Told.{tells-whole}
 use borrow.Author.Needs.{needs}
 use native.Mathlib.Omega.{arith}
 use Rattle.walk.proofs.stage2.Statement.{statement}
@@ -12,18 +12,15 @@ use Rattle.walk.proofs.stage2.Tie as tie
 fits-stage2-requires : tie.Need-fits-stage2-requires
 fits-stage2-requires c κs = search needs
 
-walk-requires : tie.Need-walk-requires
-walk-requires c κs = (stage2-root _ _ _ _ _ _ (sym (c .before .fits-stage2 .ensures) ∙ c .if1 .taken), omega arith)
-
-finish-requires : tie.Need-finish-requires
-finish-requires c κs = search needs
+last-requires : tie.Need-last-requires
+last-requires c κs = (stage2-root _ _ _ _ _ _ (sym (c .before .fits-stage2 .ensures) ∙ c .if1 .taken), omega arith)
 
 returns : tie.Need-returns
 unfolding answer-2
 returns c = simp (
-  sym (c .before .before .before .fits-stage2 .ensures),
-  c .before .before .if1 .taken,
-) (stage-2-alone _ (c .before .walk .ensures) (c .finish .ensures))
+  sym (c .before .before .fits-stage2 .ensures),
+  c .before .if1 .taken,
+) (c .last .ensures ∙ tells-whole _ _)
 
 returns-2 : tie.Need-returns-2
 unfolding answer-2
@@ -33,11 +30,4 @@ returns-2 c = simp (
 )
 
 pub stage2-spec : {M : Type 1} → statement M
-stage2-spec =
-    tie.close
-    (tie.spec
-    fits-stage2-requires
-    walk-requires
-    finish-requires
-    returns
-    returns-2)
+stage2-spec = tie.close (tie.spec fits-stage2-requires last-requires returns returns-2)
