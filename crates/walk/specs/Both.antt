@@ -12,7 +12,7 @@ use Rattle.walk.specs.declared.Answer.{Answer}
 use Rattle.walk.specs.declared.Answer.the-variants.{Found, Fault, During, Refused}
 use Rattle.walk.specs.Memory.{image-fits, read-at}
 use Rattle.descriptor.specs.Descriptor.{allows-1, allows-2}
-use Rattle.descriptor.specs.Stage.{Stage, walk-from}
+use Rattle.step.specs.Stage.{Stage, walk-from}
 
 pub record Walked (R : Type 0) : Type 0 where
   pub result : R

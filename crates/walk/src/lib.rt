@@ -10,7 +10,6 @@ mod stage_1;
 mod stage_2;
 
 pub use descriptor::Kind;
-use descriptor::Step;
 
 // `fetched` is the number of descriptors that were read.
 pub enum Answer {

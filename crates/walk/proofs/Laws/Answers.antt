@@ -1,6 +1,6 @@
 -- Both stages fetch 5 descriptors for each level and 4 for the result at most; what they find is below 2^48, and stage 2 found it.
 use Prim.Native.Nat.{ℕ, _+_, _≤_, _<_, _^_}
-use mathlib.Core.Path.{_≡_, ap, subst}
+use mathlib.Core.Path.{_≡_, subst}
 use mathlib.Core.Bool.{Bool, true, false, cond}
 use mathlib.Core.List.{List}
 use native.Mathlib.Omega.{arith}

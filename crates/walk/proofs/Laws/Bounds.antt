@@ -8,13 +8,13 @@ use native.Mathlib.Omega.{arith}
 use borrow.Author.Tests.{ltb-true, eqb-true}
 use lib.Dec.{eqb, ltb}
 use Rattle.descriptor.specs.declared.Kind.the-variants.{Translation, NotModelled, AccessFlag, Permission}
-use Rattle.descriptor.specs.declared.Step.{Step}
-use Rattle.descriptor.specs.declared.Step.the-variants.{Absent, Down, Output, Fail}
+use Rattle.step.specs.declared.Step.{Step}
+use Rattle.step.specs.declared.Step.the-variants.{Absent, Down, Output, Fail}
 use Rattle.walk.specs.Memory.{image-fits, read-at}
 use Rattle.descriptor.specs.Descriptor.{span, bit, address, is-table, is-valid, is-modelled}
-use Rattle.descriptor.specs.Stage.{valid, leaf, meaning}
+use Rattle.step.specs.Stage.{valid, leaf, meaning}
 use Rattle.walk.specs.Both.{root-fits, stage2-fits, both-fits}
-use Rattle.descriptor.specs.Step.{step-of}
+use Rattle.step.specs.Step.{step-of}
 use Rattle.walk.specs.Steps.{step-read, step-at}
 
 pub and-left : (a b : Bool) → (a && b) ≡ true → a ≡ true

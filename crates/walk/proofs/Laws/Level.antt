@@ -13,7 +13,7 @@ use Rattle.memory.specs.Word.{wordAt}
 use Rattle.descriptor.specs.declared.Kind.the-variants.{WalkAbort, Translation, Permission}
 use Rattle.walk.specs.Memory.{read-at}
 use Rattle.descriptor.specs.Descriptor.{span, slot, bit, address, allows-2}
-use Rattle.descriptor.specs.Stage.{valid, leaf, meaning, walk-from}
+use Rattle.step.specs.Stage.{valid, leaf, meaning, walk-from}
 use Rattle.walk.specs.Both.{ends, having-fetched, fetched-at, reached, failed, rules-2, fetch-2, stage-2}
 use Rattle.walk.specs.Steps.{rest-2}
 use Rattle.walk.proofs.Laws.Turn.{turn-last}

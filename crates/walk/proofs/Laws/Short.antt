@@ -1,6 +1,5 @@
 -- Stage 2 fetches 4 descriptors at most, and what it reaches is below 2^48.
 use Prim.Native.Nat.{ℕ, _+_, _≤_, _<_, _^_}
-use mathlib.Core.Path.{_≡_, sym, subst, _∙_}
 use mathlib.Core.List.{List}
 use native.Mathlib.Omega.{arith}
 use lib.ListN.{length}

@@ -1,7 +1,7 @@
 -- How the numbers of descriptors fetched add up, and what an end of stage 2 says of the walk.
 use Prim.Native.Nat.{ℕ, _+_, _-_}
 use mathlib.Core.Path.{_≡_, refl, ap, _∙_}
-use mathlib.Core.List.{List, _++_}
+use mathlib.Core.List.{List}
 use native.Mathlib.Omega.{arith}
 use lib.ListN.{length, length-append}
 use Rattle.descriptor.specs.declared.Kind.{Kind}

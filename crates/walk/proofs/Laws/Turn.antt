@@ -2,20 +2,16 @@
 use Prim.Native.Nat.{ℕ, zero, suc, _+_, _-_, _%_, _≤_}
 use mathlib.Core.Path.{_≡_, refl, sym, ap, _∙_}
 use mathlib.Core.Bool.{Bool, true, false, cond, _&&_}
-use mathlib.Core.List.{List, [], _∷_}
-use mathlib.Core.Option.{Option, none, some}
 use native.Mathlib.Omega.{arith}
 use lib.Dec.{eqb}
-use Rattle.descriptor.specs.declared.Kind.the-variants.{WalkAbort, Translation, NotModelled, AccessFlag, Permission}
-use Rattle.descriptor.specs.declared.Step.{Step}
-use Rattle.descriptor.specs.declared.Step.the-variants.{Absent, Down, Output, Fail}
-use Rattle.walk.specs.Memory.{read-at}
-use Rattle.descriptor.specs.Descriptor.{span, slot, bit, address, is-table, is-valid, is-modelled, allows-1, allows-2}
-use Rattle.descriptor.specs.Stage.{Stage, valid, leaf, meaning, walk-from}
-use Rattle.walk.specs.Both.{Walked, ends, having-fetched, fetched-at, failed, Both, through, rules-1, rules-2, fetch-1, fetch-2, stage-2}
-use Rattle.walk.specs.Both.{fault, during}
-use Rattle.descriptor.specs.Step.{allows, step-of}
-use Rattle.walk.specs.Steps.{step-read, step-at, rest-1, rest-2}
+use Rattle.descriptor.specs.declared.Kind.the-variants.{Translation, NotModelled, AccessFlag, Permission}
+use Rattle.step.specs.declared.Step.{Step}
+use Rattle.step.specs.declared.Step.the-variants.{Absent, Down, Output, Fail}
+use Rattle.descriptor.specs.Descriptor.{span, slot, bit, address, is-table, is-valid, is-modelled, allows}
+use Rattle.step.specs.Stage.{Stage, valid, leaf, meaning, walk-from}
+use Rattle.walk.specs.Both.{Both}
+use Rattle.walk.specs.Both.{fault}
+use Rattle.step.specs.Step.{step-of}
 
 and-false : (x : Bool) → (x && false) ≡ false
 and-false true = refl

@@ -2,18 +2,17 @@
 -- and the number of descriptors adds up.
 use Prim.Native.Nat.{ℕ, zero, suc, _+_, _-_, _≤_, _<_, _^_}
 use mathlib.Core.Path.{_≡_, refl, sym, subst}
-use mathlib.Core.List.{List, [], _∷_}
 use mathlib.Core.Option.{Option, none, some}
 use native.Mathlib.Omega.{arith}
 use lib.ListN.{length, length-append}
 use Rattle.descriptor.specs.declared.Kind.{Kind}
 use Rattle.descriptor.specs.declared.Kind.the-variants.{Translation}
-use Rattle.descriptor.specs.declared.Step.{Step}
-use Rattle.descriptor.specs.declared.Step.the-variants.{Absent, Down, Output, Fail}
+use Rattle.step.specs.declared.Step.{Step}
+use Rattle.step.specs.declared.Step.the-variants.{Absent, Down, Output, Fail}
 use Rattle.descriptor.specs.Descriptor.{slot}
-use Rattle.descriptor.specs.Stage.{Stage, meaning, walk-from}
-use Rattle.descriptor.specs.Step.{step-of}
-use Rattle.walk.specs.Both.{Walked, ends, having-fetched, fetched-at, One, reached, failed, by-result, through, Both}
+use Rattle.step.specs.Stage.{Stage, meaning, walk-from}
+use Rattle.step.specs.Step.{step-of}
+use Rattle.walk.specs.Both.{Walked, fetched-at, One, reached, failed, by-result, through, Both}
 use Rattle.walk.proofs.Laws.Turn.{play, plays, turn-last}
 use Rattle.walk.proofs.Laws.Bounds.{Sane, step-of-sane}
 
