@@ -66,3 +66,7 @@ executes-1 el d =
 
 unfoldable pub allows-1 : ℕ → ℕ → ℕ → Bool
 allows-1 el access d = cond (eqb access 0) (reads-1 el d) (cond (eqb access 1) (writes-1 el d) (executes-1 el d))
+
+-- the rights at a stage; stage 2 does not look at el
+unfoldable pub allows : ℕ → ℕ → ℕ → ℕ → Bool
+allows stage el access d = cond (eqb stage 2) (allows-2 access d) (allows-1 el access d)

@@ -3,12 +3,12 @@ pub mod Turn
 pub mod Level
 -- What bounds the addresses and the numbers of descriptors.
 pub mod Bounds
+pub mod Within
 pub mod Short
 pub mod Answers
 -- How the numbers add up, and the loops of the code.
 pub mod Told
-pub mod Walk1
-pub mod Walk2
+pub mod Walk
 -- For crates above: that arguments fit, and where both stages found something.
 pub mod Fits
 pub mod Found

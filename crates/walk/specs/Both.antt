@@ -12,7 +12,7 @@ use Rattle.walk.specs.declared.Answer.{Answer}
 use Rattle.walk.specs.declared.Answer.the-variants.{Found, Fault, During, Refused}
 use Rattle.walk.specs.Memory.{image-fits, read-at}
 use Rattle.descriptor.specs.Descriptor.{allows-1, allows-2}
-use Rattle.descriptor.specs.Stage.{Stage, walk-from}
+use Rattle.step.specs.Stage.{Stage, walk-from}
 
 pub record Walked (R : Type 0) : Type 0 where
   pub result : R
@@ -98,14 +98,18 @@ both-fits len b n root1 root2 access el =
     image-fits len b n && (root-fits root1 && (root-fits root2 && (ltb access 3 && ltb el 2)))
 
 -- What the two public functions answer: the result, and how many descriptors were fetched.
-abbrev pub tell-2 : One → ℕ → Answer
-tell-2 (reached a) n = Found a n
-tell-2 (failed kind level) n = Fault kind 2 level n
-
 abbrev pub tell : Both → ℕ → Answer
 tell (found a) n = Found a n
 tell (fault kind stage level) n = Fault kind stage level n
 tell (during kind level of) n = During kind level of n
+
+-- a result of stage 2 alone is one of both stages
+abbrev pub alone : One → Both
+alone (reached a) = found a
+alone (failed kind level) = fault kind 2 level
+
+abbrev pub tell-2 : One → ℕ → Answer
+tell-2 r n = tell (alone r) n
 
 unfoldable pub answer-2 : List ℕ → ℕ → ℕ → ℕ → ℕ → ℕ → Answer
 answer-2 m b n root ipa access =

@@ -7,16 +7,17 @@ use mathlib.Core.Option.{Option, none, some}
 use lib.ListN.{length}
 use Rattle.walk.specs.declared.Answer.{Answer}
 use Rattle.walk.specs.declared.Answer.the-variants.{Found, Fault}
-use Rattle.descriptor.specs.declared.Step.{Step}
-use Rattle.descriptor.specs.declared.Step.the-variants.{Absent}
+use Rattle.descriptor.specs.declared.Kind.the-variants.{WalkAbort}
+use Rattle.step.specs.declared.Step.{Step}
+use Rattle.step.specs.declared.Step.the-variants.{Absent}
 use Rattle.walk.specs.declared.Ended.{Ended}
 use Rattle.walk.specs.declared.Ended.the-variants.{Reached, Failed}
 use Rattle.walk.specs.declared.Turn.{Turn}
 use Rattle.walk.specs.declared.Turn.the-variants.{Next, Told}
 use Rattle.walk.specs.Memory.{read-at}
-use Rattle.descriptor.specs.Stage.{walk-from}
-use Rattle.descriptor.specs.Step.{step-of}
-use Rattle.walk.specs.Both.{Walked, One, reached, failed, Both, tell, fetch-1, fetch-2, rules-1, rules-2}
+use Rattle.step.specs.Stage.{meaning, walk-from}
+use Rattle.step.specs.Step.{step-of}
+use Rattle.walk.specs.Both.{Walked, ends, fetched-at, One, reached, failed, Both, fault, tell, fetch-1, fetch-2, rules-1, rules-2}
 
 abbrev pub step-read : (ℕ → Bool) → ℕ → ℕ → Option ℕ → Step
 step-read rights ia level none = Absent
@@ -26,16 +27,19 @@ step-read rights ia level (some d) = step-of rights ia level d
 unfoldable pub step-at : List ℕ → ℕ → (ℕ → Bool) → ℕ → ℕ → ℕ → Step
 step-at m b rights ia level a = step-read rights ia level (read-at m b a)
 
--- where n descriptors had been fetched before
+-- what is told of a walk before which n descriptors had been fetched
+unfoldable pub tells : {R A : Type 0} → (R → ℕ → A) → ℕ → Walked R → A
+tells say n w = say (w .result) (n + length (w .fetched))
+
 abbrev pub end-by : One → ℕ → Ended
 end-by (reached a) n = Reached a n
 end-by (failed kind level) n = Failed kind level n
 
-unfoldable pub ended : ℕ → Walked One → Ended
-ended n w = end-by (w .result) (n + length (w .fetched))
+abbrev pub ended : ℕ → Walked One → Ended
+ended = tells end-by
 
-unfoldable pub told : ℕ → Walked Both → Answer
-told n w = tell (w .result) (n + length (w .fetched))
+abbrev pub told : ℕ → Walked Both → Answer
+told = tells tell
 
 -- a walk that stands at a table of level 3 - left
 abbrev pub rest-2 : List ℕ → ℕ → ℕ → ℕ → ℕ → ℕ → Walked One
@@ -44,13 +48,21 @@ rest-2 m b access ipa left table = walk-from (rules-2 access) ipa (fetch-2 m b) 
 abbrev pub rest-1 : List ℕ → ℕ → ℕ → ℕ → ℕ → ℕ → ℕ → ℕ → Walked Both
 rest-1 m b root2 access el va left table = walk-from (rules-1 m b root2 access el) va (fetch-1 m b root2) left table
 
--- a turn of stage 1 at a level, from a table, where n descriptors had been fetched: it told the answer, or the walk goes on
-module _ (m : List ℕ) (b root2 access el va level table n : ℕ) where
-  abbrev pub Turns : Turn → Type 0
-  Turns (Told x) = x ≡ told n (rest-1 m b root2 access el va (3 - level) table)
-  Turns (Next t k) =
-      (level < 3) × (t < 2 ^ 48) × (k ≤ n + 5)
-      × (told n (rest-1 m b root2 access el va (3 - level) table) ≡ told k (rest-1 m b root2 access el va (3 - (level + 1)) t))
+-- stage 1, where it reached the descriptor of a level at the physical address a
+unfoldable pub here-1 : List ℕ → ℕ → ℕ → ℕ → ℕ → ℕ → ℕ → ℕ → Walked Both
+here-1 m b root2 access el va level a =
+    fetched-at a (read-at m b a) (ends (fault WalkAbort 1 level))
+    (λ d. meaning (rules-1 m b root2 access el) va level d (rest-1 m b root2 access el va (3 - (level + 1))))
+
+-- a turn of stage 1 at a level: it told the answer, `whole`, or the walk goes on, and `most` descriptors at most were fetched
+module _ (m : List ℕ) (b root2 access el va level most : ℕ) (whole : Answer) where
+  abbrev pub turn-to : Turn → Type 0
+  turn-to (Told x) = x ≡ whole
+  turn-to (Next t k) =
+      (level < 3) × (t < 2 ^ 48) × (k ≤ most) × (whole ≡ told k (rest-1 m b root2 access el va (3 - (level + 1)) t))
+
+  pub record Turns (x : Turn) : Type 0 where
+    pub so : turn-to x
 
 -- the answer of a walk whose last part is stage 2, which ended so
 abbrev pub Finished : Ended → Answer → Type 0

@@ -1,14 +1,15 @@
 // Document 01: what an address translates to, whatever the memory image holds.
 // Nothing is asked of the caller: numbers that do not fit are refused.
 ghost use mathlib.Core.Path.{_≡_};
+ghost use mathlib.Core.Bool.{_&&_};
+ghost use lib.Dec.{ltb};
 ghost use Rattle.walk.specs.Memory.{image-fits};
-ghost use Rattle.walk.specs.Both.{root-fits, answer-2, answer};
+ghost use Rattle.walk.specs.Both.{root-fits, stage2-fits, both-fits, answer-2, answer};
 
 mod stage_1;
 mod stage_2;
 
 pub use descriptor::Kind;
-use descriptor::Step;
 
 // `fetched` is the number of descriptors that were read.
 pub enum Answer {
@@ -79,18 +80,55 @@ fn fits_root(root: u64) -> bool
     root < 0x1000000000000
 }
 
+fn fits_stage2(len: usize, base: u64, frames: u64, root: u64, ipa: u64, access: u64) -> bool
+    ensures { λ r. ⌜ r ≡ stage2-fits len base frames root ipa access ⌝ }
+{
+    if fits_image(len, base, frames) {
+        if fits_root(root) {
+            if access < 3 {
+                return ipa < 0x1000000000000;
+            }
+        }
+    }
+    false
+}
+
+fn fits_access(access: u64, el: u64) -> bool
+    ensures { λ r. ⌜ r ≡ (ltb access 3 && ltb el 2) ⌝ }
+{
+    if access < 3 {
+        return el < 2;
+    }
+    false
+}
+
+fn fits_both(
+    len: usize,
+    base: u64,
+    frames: u64,
+    root1: u64,
+    root2: u64,
+    access: u64,
+    el: u64,
+) -> bool
+    ensures { λ r. ⌜ r ≡ both-fits len base frames root1 root2 access el ⌝ }
+{
+    if fits_image(len, base, frames) {
+        if fits_root(root1) {
+            if fits_root(root2) {
+                return fits_access(access, el);
+            }
+        }
+    }
+    false
+}
+
 // Stage 2 alone: access is 0 to read, 1 to write, 2 to execute.
 pub fn stage2(ram: &[u8], base: u64, frames: u64, root: u64, ipa: u64, access: u64) -> Answer
     ensures { λ r. ⌜ r ≡ answer-2 (now (ram .entry)) base frames root ipa access ⌝ }
 {
-    if fits_image(ram.len(), base, frames) {
-        if fits_root(root) {
-            if access < 3 {
-                if ipa < 0x1000000000000 {
-                    return stage_1::finish(stage_2::walk(ram, base, root, access, ipa, 0));
-                }
-            }
-        }
+    if fits_stage2(ram.len(), base, frames, root, ipa, access) {
+        return stage_2::last(ram, base, root, access, ipa, 0);
     }
     Answer::Refused
 }
@@ -108,16 +146,8 @@ pub fn both_stages(
 ) -> Answer
     ensures { λ r. ⌜ r ≡ answer (now (ram .entry)) base frames root1 root2 va access el ⌝ }
 {
-    if fits_image(ram.len(), base, frames) {
-        if fits_root(root1) {
-            if fits_root(root2) {
-                if access < 3 {
-                    if el < 2 {
-                        return stage_1::both(ram, base, root1, root2, va, access, el);
-                    }
-                }
-            }
-        }
+    if fits_both(ram.len(), base, frames, root1, root2, access, el) {
+        return stage_1::both(ram, base, root1, root2, va, access, el);
     }
     Answer::Refused
 }

@@ -1,35 +1,55 @@
 // Document 01, section 5: stage 1, whose tables lie at guest-physical addresses, so that each descriptor is reached through stage 2.
 ghost use mathlib.Core.Path.{_≡_};
-ghost use Prim.Native.Nat.{_+_, _<_, _≤_, _^_};
+ghost use Prim.Native.Nat.{_+_, _-_, _<_, _≤_, _^_};
 ghost use Rattle.walk.specs.Both.{both as both·of, stage-1};
-ghost use Rattle.walk.specs.Steps.{Finished, told, Turns};
+ghost use Rattle.walk.specs.Steps.{told, rest-1, here-1, Turns};
 use super::Answer;
 use super::Ended;
 use super::Turn;
 use super::stage_2;
 use descriptor::Kind;
-use descriptor::Step;
+use step::Step;
 
-// An answer that stage 2 gives, where no other stage comes after it.
-pub(crate) fn finish(end: Ended) -> Answer
-    ensures { λ r. ⌜ Finished end r ⌝ }
+// The descriptor of a level, which was reached at the physical address `a`; `before` descriptors were fetched on the way here.
+fn follow(
+    ram: &[u8],
+    base: u64,
+    root2: u64,
+    access: u64,
+    el: u64,
+    va: u64,
+    level: u64,
+    a: u64,
+    before: u64,
+) -> Turn
+    requires { ⌜ (level ≤ 3) × (a < 2 ^ 48) × (root2 < 2 ^ 48) × (before ≤ 19) ⌝ }
+    ensures { λ r. ⌜ Turns (now (ram .entry)) base root2 access el va level (before + 1) (told before (here-1 (now (ram .entry)) base root2 access el va level a)) r ⌝ }
 {
-    match end {
-        Ended::Reached { address, fetched } => Answer::Found { address, fetched },
-        Ended::Failed {
-            kind,
-            level,
-            fetched,
-        } => Answer::Fault {
-            kind,
-            stage: 2,
-            level,
-            fetched,
+    let step = stage_2::visit(ram, base, 1, el, access, va, level, a);
+    match step {
+        Step::Down(table) => Turn::Next {
+            table,
+            fetched: before + 1,
         },
+        Step::Output(ipa) => {
+            Turn::Told(stage_2::last(ram, base, root2, access, ipa, before + 1))
+        }
+        Step::Fail(kind) => Turn::Told(Answer::Fault {
+            kind,
+            stage: 1,
+            level,
+            fetched: before + 1,
+        }),
+        Step::Absent => Turn::Told(Answer::Fault {
+            kind: Kind::WalkAbort,
+            stage: 1,
+            level,
+            fetched: before,
+        }),
     }
 }
 
-// One level of stage 1; `before` descriptors were fetched on the way here.
+// One level of stage 1: its descriptor goes through stage 2 as a read.
 fn turn(
     ram: &[u8],
     base: u64,
@@ -42,9 +62,9 @@ fn turn(
     before: u64,
 ) -> Turn
     requires { ⌜ (level ≤ 3) × (table < 2 ^ 48) × (root2 < 2 ^ 48) × (before ≤ 15) ⌝ }
-    ensures { λ r. ⌜ Turns (now (ram .entry)) base root2 access el va level table before r ⌝ }
+    ensures { λ r. ⌜ Turns (now (ram .entry)) base root2 access el va level (before + 5) (told before (rest-1 (now (ram .entry)) base root2 access el va (3 - level) table)) r ⌝ }
 {
-    let ipa = descriptor::place(level, va, table);
+    let ipa = step::place(level, va, table);
     let way = stage_2::walk(ram, base, root2, 0, ipa, before);
     match way {
         Ended::Failed {
@@ -57,35 +77,17 @@ fn turn(
             of: level,
             fetched,
         }),
-        Ended::Reached { address, fetched } => {
-            let step = stage_2::visit(ram, base, 1, el, access, va, level, address);
-            match step {
-                Step::Down(t) => Turn::Next {
-                    table: t,
-                    fetched: fetched + 1,
-                },
-                Step::Output(ipa) => Turn::Told(finish(stage_2::walk(
-                    ram,
-                    base,
-                    root2,
-                    access,
-                    ipa,
-                    fetched + 1,
-                ))),
-                Step::Fail(kind) => Turn::Told(Answer::Fault {
-                    kind,
-                    stage: 1,
-                    level,
-                    fetched: fetched + 1,
-                }),
-                Step::Absent => Turn::Told(Answer::Fault {
-                    kind: Kind::WalkAbort,
-                    stage: 1,
-                    level,
-                    fetched,
-                }),
-            }
-        }
+        Ended::Reached { address, fetched } => follow(
+            ram,
+            base,
+            root2,
+            access,
+            el,
+            va,
+            level,
+            address,
+            fetched,
+        ),
     }
 }
 

@@ -1,12 +1,13 @@
 // Document 01, section 4: stage 2, whose tables lie in RAM.
 ghost use mathlib.Core.Path.{_≡_};
 ghost use Prim.Native.Nat.{_+_, _<_, _≤_, _^_};
-ghost use Rattle.walk.specs.Both.{stage-2};
-ghost use Rattle.descriptor.specs.Step.{allows};
-ghost use Rattle.walk.specs.Steps.{step-at, ended};
+ghost use Rattle.walk.specs.Both.{stage-2, tell-2};
+ghost use Rattle.descriptor.specs.Descriptor.{allows};
+ghost use Rattle.walk.specs.Steps.{step-at, tells, ended, Finished};
+use super::Answer;
 use super::Ended;
 use descriptor::Kind;
-use descriptor::Step;
+use step::Step;
 
 // The descriptor at the physical address `a`, for the input address `ia` of a stage.
 pub(crate) fn visit(
@@ -26,7 +27,7 @@ pub(crate) fn visit(
         let at = (a - base) as usize;
         if at + 8 <= ram.len() {
             let d = memory::word(ram, at);
-            return descriptor::examine(stage, el, access, ia, level, d);
+            return step::examine(stage, el, access, ia, level, d);
         }
     }
     Step::Absent
@@ -40,7 +41,7 @@ pub(crate) fn walk(ram: &[u8], base: u64, root: u64, access: u64, ipa: u64, befo
     let mut level: u64 = 0;
     let mut table = root;
     loop {
-        let a = descriptor::place(level, ipa, table);
+        let a = step::place(level, ipa, table);
         let step = visit(ram, base, 2, 0, access, ipa, level, a);
         match step {
             Step::Down(t) => {
@@ -69,4 +70,30 @@ pub(crate) fn walk(ram: &[u8], base: u64, root: u64, access: u64, ipa: u64, befo
             }
         }
     }
+}
+
+fn finish(end: Ended) -> Answer
+    ensures { λ r. ⌜ Finished end r ⌝ }
+{
+    match end {
+        Ended::Reached { address, fetched } => Answer::Found { address, fetched },
+        Ended::Failed {
+            kind,
+            level,
+            fetched,
+        } => Answer::Fault {
+            kind,
+            stage: 2,
+            level,
+            fetched,
+        },
+    }
+}
+
+// Stage 2 as the last part of a walk: its end is the answer.
+pub(crate) fn last(ram: &[u8], base: u64, root: u64, access: u64, ipa: u64, before: u64) -> Answer
+    requires { ⌜ (root < 2 ^ 48) × (before ≤ 20) ⌝ }
+    ensures { λ r. ⌜ r ≡ tells tell-2 before (stage-2 (now (ram .entry)) base root access ipa) ⌝ }
+{
+    finish(walk(ram, base, root, access, ipa, before))
 }

@@ -1,6 +1,6 @@
 -- Written by tools/prove from the file answers beside it: edit that, and not this.
 -- By the stage.
-use Rattle.descriptor.specs.Step.{allows}
+use Rattle.descriptor.specs.Descriptor.{allows}
 use borrow.Author.Needs.{needs}
 use mathlib.Core.Path.{sym}
 use borrow.Author.Tests.{eq-eqb, ne-eqb}

@@ -4,7 +4,7 @@ use Prim.Native.Nat.{ℕ, zero, suc, _+_, _*_, _-_, _<_, _/_, _%_, _^_}
 use native.Mathlib.Omega.{arith}
 use lib.Dec.{eqb}
 use Rattle.descriptor.specs.Descriptor.{address, allows-2}
-use Rattle.walk.proofs.Laws.Level.{allows-read, allows-write, allows-execute}
+use Rattle.walk.proofs.Laws.Level.{rights-at}
 use Rattle.model.specs.State.{pages}
 use Rattle.model.specs.Entry.{table-entry, page-entry}
 use Rattle.model.specs.EntryLaws.{table-page, page-bits}
@@ -34,6 +34,6 @@ module _ (first f r : ℕ) (l : first + f < pages) where
   page-address = let z = page-bits first f r l .page in omega arith
 
   pub page-allows : (w : Access) → allows-2 (access w) (page-entry first f r) ≡ grants r w
-  page-allows reading = allows-read _ ∙ ap (λ (x : ℕ). eqb x 1) (page-bits first f r l .read)
-  page-allows writing = allows-write _ ∙ ap (λ (x : ℕ). eqb x 1) (page-bits first f r l .write)
-  page-allows executing = allows-execute _ ∙ ap (λ (x : ℕ). eqb x 0) (page-bits first f r l .never) ∙ contrary (r / 4 % 2) (omega arith)
+  page-allows reading = rights-at 0 _ ∙ ap (λ (x : ℕ). eqb x 1) (page-bits first f r l .read)
+  page-allows writing = rights-at 1 _ ∙ ap (λ (x : ℕ). eqb x 1) (page-bits first f r l .write)
+  page-allows executing = rights-at 2 _ ∙ ap (λ (x : ℕ). eqb x 0) (page-bits first f r l .never) ∙ contrary (r / 4 % 2) (omega arith)

@@ -8,13 +8,13 @@ use native.Mathlib.Omega.{arith}
 use borrow.Author.Tests.{ltb-true, eqb-true}
 use lib.Dec.{eqb, ltb}
 use Rattle.descriptor.specs.declared.Kind.the-variants.{Translation, NotModelled, AccessFlag, Permission}
-use Rattle.descriptor.specs.declared.Step.{Step}
-use Rattle.descriptor.specs.declared.Step.the-variants.{Absent, Down, Output, Fail}
-use Rattle.walk.specs.Memory.{read-at}
+use Rattle.step.specs.declared.Step.{Step}
+use Rattle.step.specs.declared.Step.the-variants.{Absent, Down, Output, Fail}
+use Rattle.walk.specs.Memory.{image-fits, read-at}
 use Rattle.descriptor.specs.Descriptor.{span, bit, address, is-table, is-valid, is-modelled}
-use Rattle.descriptor.specs.Stage.{valid, leaf, meaning}
-use Rattle.walk.specs.Both.{root-fits}
-use Rattle.descriptor.specs.Step.{step-of}
+use Rattle.step.specs.Stage.{valid, leaf, meaning}
+use Rattle.walk.specs.Both.{root-fits, stage2-fits, both-fits}
+use Rattle.step.specs.Step.{step-of}
 use Rattle.walk.specs.Steps.{step-read, step-at}
 
 pub and-left : (a b : Bool) → (a && b) ≡ true → a ≡ true
@@ -65,7 +65,7 @@ module _ (ia level d : ℕ) (le : level ≤ 3) where
   by-tests true true false false true p q = block-low (address d) ia level le (aligned p q) (omega arith)
   by-tests true true false false false p q = tt
 
-  step-of-sane : (rights : ℕ → Bool) → Sane level (step-of rights ia level d)
+  pub step-of-sane : (rights : ℕ → Bool) → Sane level (step-of rights ia level d)
   unfolding step-of meaning valid leaf
   step-of-sane rights =
       by-tests (is-valid level d) (is-modelled level d) (is-table level d) (eqb (bit 10 d) 0) (rights d) refl refl
@@ -79,6 +79,21 @@ pub step-sane : (m : List ℕ) (b : ℕ) (rights : ℕ → Bool) (ia level a : �
 unfolding step-at
 step-sane m b rights ia level a le = step-read-sane rights ia level le (read-at m b a)
 
-pub root-low : (root : ℕ) → root-fits root ≡ true → root < 2 ^ 48
+root-low : (root : ℕ) → root-fits root ≡ true → root < 2 ^ 48
 unfolding root-fits
 root-low root e = ltb-true root (2 ^ 48) (and-right (eqb (root % 4096) 0) (ltb root (2 ^ 48)) e)
+
+-- the roots of a walk whose arguments fit
+pub stage2-root : (len b n root ipa access : ℕ) → stage2-fits len b n root ipa access ≡ true → root < 2 ^ 48
+unfolding stage2-fits
+stage2-root len b n root ipa access e =
+    let roots = and-right (image-fits len b n) (root-fits root && (ltb access 3 && ltb ipa (2 ^ 48))) e in
+    root-low root (and-left (root-fits root) (ltb access 3 && ltb ipa (2 ^ 48)) roots)
+
+pub both-roots : (len b n root1 root2 access el : ℕ) → both-fits len b n root1 root2 access el ≡ true → (root1 < 2 ^ 48) × (root2 < 2 ^ 48)
+unfolding both-fits
+both-roots len b n root1 root2 access el e =
+    let rest = ltb access 3 && ltb el 2 in
+    let roots = and-right (image-fits len b n) (root-fits root1 && (root-fits root2 && rest)) e in
+    let second = and-right (root-fits root1) (root-fits root2 && rest) roots in
+    (root-low root1 (and-left (root-fits root1) (root-fits root2 && rest) roots), root-low root2 (and-left (root-fits root2) rest second))

@@ -13,7 +13,7 @@ use Rattle.memory.specs.Word.{wordAt}
 use Rattle.descriptor.specs.declared.Kind.the-variants.{WalkAbort, Translation, Permission}
 use Rattle.walk.specs.Memory.{read-at}
 use Rattle.descriptor.specs.Descriptor.{span, slot, bit, address, allows-2}
-use Rattle.descriptor.specs.Stage.{valid, leaf, meaning, walk-from}
+use Rattle.step.specs.Stage.{valid, leaf, meaning, walk-from}
 use Rattle.walk.specs.Both.{ends, having-fetched, fetched-at, reached, failed, rules-2, fetch-2, stage-2}
 use Rattle.walk.specs.Steps.{rest-2}
 use Rattle.walk.proofs.Laws.Turn.{turn-last}
@@ -29,18 +29,9 @@ pub slot-at : (level ipa table : ℕ) → slot level ipa table ≡ table + 8 * (
 unfolding slot
 slot-at level ipa table = refl
 
--- the rights of stage 2, for each kind of access
-pub allows-read : (d : ℕ) → allows-2 0 d ≡ eqb (bit 6 d) 1
+pub rights-at : (access d : ℕ) → allows-2 access d ≡ cond (eqb access 0) (eqb (bit 6 d) 1) (cond (eqb access 1) (eqb (bit 7 d) 1) (eqb (bit 54 d) 0))
 unfolding allows-2
-allows-read d = refl
-
-pub allows-write : (d : ℕ) → allows-2 1 d ≡ eqb (bit 7 d) 1
-unfolding allows-2
-allows-write d = refl
-
-pub allows-execute : (d : ℕ) → allows-2 2 d ≡ eqb (bit 54 d) 0
-unfolding allows-2
-allows-execute d = refl
+rights-at access d = refl
 
 module _ (m : List ℕ) (b access ipa : ℕ) where
   pub stage-2-rest : (root : ℕ) → stage-2 m b root access ipa ≡ rest-2 m b access ipa 3 root

@@ -1,7 +1,7 @@
 -- How the numbers of descriptors fetched add up, and what an end of stage 2 says of the walk.
 use Prim.Native.Nat.{ℕ, _+_, _-_}
 use mathlib.Core.Path.{_≡_, refl, ap, _∙_}
-use mathlib.Core.List.{List, _++_}
+use mathlib.Core.List.{List}
 use native.Mathlib.Omega.{arith}
 use lib.ListN.{length, length-append}
 use Rattle.descriptor.specs.declared.Kind.{Kind}
@@ -9,31 +9,21 @@ use Rattle.walk.specs.declared.Answer.{Answer}
 use Rattle.walk.specs.declared.Ended.{Ended}
 use Rattle.walk.specs.declared.Ended.the-variants.{Reached, Failed}
 use Rattle.walk.specs.Both.{Walked, ends, having-fetched, One, reached, failed, Both, by-result, through, tell}
-use Rattle.walk.specs.Steps.{end-by, ended, told}
+use Rattle.walk.specs.Steps.{tells, end-by, ended, told}
 
--- whatever is told of a result and of how many were fetched, in one stage or in both
-module _ {R A : Type 0} (tells : R → ℕ → A) where
-  more : (n : ℕ) (places : List ℕ) (w : Walked R) → tells (w .result) (n + length (places ++ w .fetched)) ≡ tells (w .result) (n + length places + length (w .fetched))
-  more n places w = ap (tells (w .result)) (omega (arith, length-append places (w .fetched)))
+module _ {R A : Type 0} (say : R → ℕ → A) where
+  pub tells-more : (n : ℕ) (places : List ℕ) (w : Walked R) → tells say n (having-fetched places w) ≡ tells say (n + length places) w
+  unfolding tells
+  tells-more n places w = ap (say (w .result)) (omega (arith, length-append places (w .fetched)))
 
-  now : (n : ℕ) (r : R) → tells r (n + 0) ≡ tells r n
-  now n r = ap (tells r) (omega arith)
+  pub tells-now : (n : ℕ) (r : R) → tells say n (ends r) ≡ say r n
+  unfolding tells
+  tells-now n r = ap (say r) (omega arith)
 
-pub ended-more : (n : ℕ) (places : List ℕ) (w : Walked One) → ended n (having-fetched places w) ≡ ended (n + length places) w
-unfolding ended
-ended-more = more end-by
-
-pub told-more : (n : ℕ) (places : List ℕ) (w : Walked Both) → told n (having-fetched places w) ≡ told (n + length places) w
-unfolding told
-told-more = more tell
-
-pub ended-now : (n : ℕ) (r : One) → ended n (ends r) ≡ end-by r n
-unfolding ended
-ended-now = now end-by
-
-pub told-now : (n : ℕ) (r : Both) → told n (ends r) ≡ tell r n
-unfolding told
-told-now = now tell
+  -- the answer of a whole walk, where nothing was fetched before
+  pub tells-whole : (w : Walked R) → tells say 0 w ≡ say (w .result) (length (w .fetched))
+  unfolding tells
+  tells-whole w = ap (say (w .result)) (omega arith)
 
 -- What the end of stage 2 says of the whole walk that went through it.
 module _ (n : ℕ) (fails : Kind → ℕ → Both) (next : ℕ → Walked Both) where
@@ -43,8 +33,8 @@ module _ (n : ℕ) (fails : Kind → ℕ → Both) (next : ℕ → Walked Both) 
 
   by-end : (r : One) (k : ℕ) → told k (by-result r fails next) ≡ goes-on (end-by r k)
   by-end (reached a) k = refl
-  by-end (failed kind level) k = told-now k (fails kind level)
+  by-end (failed kind level) k = tells-now tell k (fails kind level)
 
   pub told-through : (w : Walked One) → told n (through w fails next) ≡ goes-on (ended n w)
-  unfolding ended
-  told-through w = told-more n (w .fetched) (by-result (w .result) fails next) ∙ by-end (w .result) (n + length (w .fetched))
+  unfolding tells
+  told-through w = tells-more tell n (w .fetched) (by-result (w .result) fails next) ∙ by-end (w .result) (n + length (w .fetched))

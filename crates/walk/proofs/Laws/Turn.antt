@@ -2,20 +2,16 @@
 use Prim.Native.Nat.{ℕ, zero, suc, _+_, _-_, _%_, _≤_}
 use mathlib.Core.Path.{_≡_, refl, sym, ap, _∙_}
 use mathlib.Core.Bool.{Bool, true, false, cond, _&&_}
-use mathlib.Core.List.{List, [], _∷_}
-use mathlib.Core.Option.{Option, none, some}
 use native.Mathlib.Omega.{arith}
 use lib.Dec.{eqb}
-use Rattle.descriptor.specs.declared.Kind.the-variants.{WalkAbort, Translation, NotModelled, AccessFlag, Permission}
-use Rattle.descriptor.specs.declared.Step.{Step}
-use Rattle.descriptor.specs.declared.Step.the-variants.{Absent, Down, Output, Fail}
-use Rattle.walk.specs.Memory.{read-at}
-use Rattle.descriptor.specs.Descriptor.{span, slot, bit, address, is-table, is-valid, is-modelled, allows-1, allows-2}
-use Rattle.descriptor.specs.Stage.{Stage, valid, leaf, meaning, walk-from}
-use Rattle.walk.specs.Both.{Walked, ends, having-fetched, fetched-at, failed, Both, through, rules-1, rules-2, fetch-1, fetch-2, stage-2}
-use Rattle.walk.specs.Both.{fault, during}
-use Rattle.descriptor.specs.Step.{allows, step-of}
-use Rattle.walk.specs.Steps.{step-read, step-at, rest-1, rest-2}
+use Rattle.descriptor.specs.declared.Kind.the-variants.{Translation, NotModelled, AccessFlag, Permission}
+use Rattle.step.specs.declared.Step.{Step}
+use Rattle.step.specs.declared.Step.the-variants.{Absent, Down, Output, Fail}
+use Rattle.descriptor.specs.Descriptor.{span, slot, bit, address, is-table, is-valid, is-modelled, allows}
+use Rattle.step.specs.Stage.{Stage, valid, leaf, meaning, walk-from}
+use Rattle.walk.specs.Both.{Both}
+use Rattle.walk.specs.Both.{fault}
+use Rattle.step.specs.Step.{step-of}
 
 and-false : (x : Bool) → (x && false) ≡ false
 and-false true = refl
@@ -84,48 +80,3 @@ module _ {A B : Type 0} (s : Stage A) (ia level : ℕ) (below : ℕ → A) (h : 
   pub plays : (d : ℕ) → h (meaning s ia level d below) ≡ play (step-of (s .allows) ia level d)
   unfolding step-of meaning valid leaf
   plays d = by-tests (is-valid level d) (is-modelled level d) (is-table level d) (eqb (bit 10 d) 0) (s .allows d) d
-
--- The walk goes on as the step says, having fetched the descriptor at a.
-module _ {R : Type 0} (s : Stage (Walked R)) (ia level a : ℕ) (abort : Walked R) (below : ℕ → Walked R) where
-  abbrev pub replay : Step → Walked R
-  replay = play s ia level below (having-fetched (a ∷ [])) abort
-
-  pub fetched-step : (o : Option ℕ)
-      → fetched-at a o abort (λ d. meaning s ia level d below) ≡ replay (step-read (s .allows) ia level o)
-  fetched-step none = refl
-  fetched-step (some d) = plays s ia level below (having-fetched (a ∷ [])) abort d
-
--- The rights that the code asks for by the number of the stage.
-pub rights-2 : (el access : ℕ) → allows 2 el access ≡ allows-2 access
-unfolding allows
-rights-2 el access = refl
-
-pub rights-1 : (el access : ℕ) → allows 1 el access ≡ allows-1 el access
-unfolding allows
-rights-1 el access = refl
-
-module _ (m : List ℕ) (b access ipa level table : ℕ) (le : level ≤ 3) where
-  pub turn-2 : rest-2 m b access ipa (3 - level) table
-      ≡ replay (rules-2 access) ipa level (slot level ipa table) (ends (failed WalkAbort level)) (rest-2 m b access ipa (3 - (level + 1)))
-      (step-at m b (allows 2 0 access) ipa level (slot level ipa table))
-  unfolding fetch-2 rules-2 step-at allows
-  turn-2 =
-      turn (rules-2 access) ipa (fetch-2 m b) level table le
-      ∙ fetched-step (rules-2 access) ipa level (slot level ipa table) (ends (failed WalkAbort level)) (rest-2 m b access ipa (3 - (level + 1)))
-      (read-at m b (slot level ipa table))
-
-module _ (m : List ℕ) (b root2 access el va level table : ℕ) (le : level ≤ 3) where
-  -- where the descriptor was reached at the physical address a
-  abbrev pub visited-1 : ℕ → Walked Both
-  visited-1 a =
-      replay (rules-1 m b root2 access el) va level a (ends (fault WalkAbort 1 level)) (rest-1 m b root2 access el va (3 - (level + 1)))
-      (step-at m b (allows 1 el access) va level a)
-
-  pub turn-1 : rest-1 m b root2 access el va (3 - level) table
-      ≡ through (stage-2 m b root2 0 (slot level va table)) (λ kind level2. during kind level2 level) visited-1
-  unfolding fetch-1 rules-1 step-at allows
-  turn-1 =
-      turn (rules-1 m b root2 access el) va (fetch-1 m b root2) level table le
-      ∙ ap (through (stage-2 m b root2 0 (slot level va table)) (λ kind level2. during kind level2 level))
-      (λ i a. fetched-step (rules-1 m b root2 access el) va level a (ends (fault WalkAbort 1 level)) (rest-1 m b root2 access el va (3 - (level + 1)))
-      (read-at m b a) i)

@@ -9,14 +9,14 @@ use native.Mathlib.Omega.{arith}
 use borrow.Author.Tests.{lt-ltb}
 use lib.ListN.{length, length-append}
 use Rattle.descriptor.specs.declared.Kind.the-variants.{WalkAbort, Translation}
-use Rattle.descriptor.specs.declared.Step.{Step}
-use Rattle.descriptor.specs.declared.Step.the-variants.{Absent, Down, Output, Fail}
+use Rattle.step.specs.declared.Step.{Step}
+use Rattle.step.specs.declared.Step.the-variants.{Absent, Down, Output, Fail}
 use Rattle.walk.specs.Memory.{read-at}
 use Rattle.descriptor.specs.Descriptor.{slot, allows-1}
-use Rattle.descriptor.specs.Stage.{Stage, meaning, walk-from}
+use Rattle.step.specs.Stage.{Stage, meaning, walk-from}
 use Rattle.walk.specs.Both.{Walked, ends, fetched-at, One, reached, failed, Both, found, fault, during, by-result}
 use Rattle.walk.specs.Both.{rules-1, fetch-1, stage-1, stage-2, both}
-use Rattle.descriptor.specs.Step.{step-of}
+use Rattle.step.specs.Step.{step-of}
 use Rattle.walk.specs.Steps.{rest-1}
 use Rattle.walk.proofs.Laws.Turn.{play, plays, turn-last}
 

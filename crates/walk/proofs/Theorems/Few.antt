@@ -2,27 +2,11 @@
 -- Any bytes, any numbers: tables may point at each other or at themselves.
 use Prim.Native.Nat.{ℕ, _≤_}
 use mathlib.Core.List.{List}
-use Rattle.walk.specs.declared.Answer.{Answer}
-use Rattle.walk.specs.declared.Answer.the-variants.{Found, Fault, During, Refused}
 use Rattle.walk.specs.Both.{answer-2, answer}
-use Rattle.walk.proofs.Laws.Answers.{answer-2-bounds, answer-bounds, Bounds}
-
--- the number of descriptors that an answer tells
-abbrev pub fetched : Answer → ℕ
-fetched (Found a n) = n
-fetched (Fault kind stage level n) = n
-fetched (During kind level of n) = n
-fetched Refused = 0
-
-few : (most : ℕ) (x : Answer) → Bounds most x → fetched x ≤ most
-few most (Found a n) h = h .1
-few most (Fault kind stage level n) h = h
-few most (During kind level of n) h = h
-few most Refused h = h
+use Rattle.walk.proofs.Laws.Answers.{answer-2-bounds, answer-bounds, fetched}
 
 pub at-most-4 : (m : List ℕ) (b n root ipa access : ℕ) → fetched (answer-2 m b n root ipa access) ≤ 4
-at-most-4 m b n root ipa access = few 4 (answer-2 m b n root ipa access) (answer-2-bounds m b n root ipa access)
+at-most-4 m b n root ipa access = answer-2-bounds m b n root ipa access .few
 
 pub at-most-24 : (m : List ℕ) (b n root1 root2 va access el : ℕ) → fetched (answer m b n root1 root2 va access el) ≤ 24
-at-most-24 m b n root1 root2 va access el =
-    few 24 (answer m b n root1 root2 va access el) (answer-bounds m b n root1 root2 va access el)
+at-most-24 m b n root1 root2 va access el = answer-bounds m b n root1 root2 va access el .few

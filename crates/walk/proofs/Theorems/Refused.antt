@@ -9,31 +9,27 @@ use mathlib.Core.Logic.{_↔_}
 use native.Mathlib.Omega.{arith}
 use Rattle.walk.specs.declared.Answer.{Answer}
 use Rattle.walk.specs.declared.Answer.the-variants.{Refused}
-use Rattle.walk.specs.Both.{One, reached, failed, Both, found, fault, during, tell, tell-2, stage-2, both, stage2-fits, both-fits, answer-2, answer}
-
-told-2 : (r : One) (n : ℕ) → tell-2 r n ≡ Refused → ⊥
-told-2 (reached a) n e = let z : _≡_ {A = ℕ} 0 1 = cc in omega arith
-told-2 (failed kind level) n e = let z : _≡_ {A = ℕ} 0 1 = cc in omega arith
+use Rattle.walk.specs.Both.{Both, found, fault, during, alone, tell, stage-2, both, stage2-fits, both-fits, answer-2, answer}
 
 told : (r : Both) (n : ℕ) → tell r n ≡ Refused → ⊥
 told (found a) n e = let z : _≡_ {A = ℕ} 0 1 = cc in omega arith
 told (fault kind stage level) n e = let z : _≡_ {A = ℕ} 0 1 = cc in omega arith
 told (during kind level of) n e = let z : _≡_ {A = ℕ} 0 1 = cc in omega arith
 
-exactly : (fits : Bool) (x : Answer) → (x ≡ Refused → ⊥) → (cond fits x Refused ≡ Refused) ↔ (fits ≡ false)
-exactly true x ne = (λ e. absurd (ne e), λ e. absurd (let z : _≡_ {A = ℕ} 0 1 = ap (λ (t : Bool). cond t 1 0) (sym e) in omega arith))
-exactly false x ne = (λ e. refl, λ e. refl)
+exactly : (fits : Bool) (r : Both) (n : ℕ) → (cond fits (tell r n) Refused ≡ Refused) ↔ (fits ≡ false)
+exactly true r n = (λ e. absurd (told r n e), λ e. absurd (let z : _≡_ {A = ℕ} 0 1 = ap (λ (t : Bool). cond t 1 0) (sym e) in omega arith))
+exactly false r n = (λ e. refl, λ e. refl)
 
 pub refused-2 : (m : List ℕ) (b n root ipa access : ℕ)
     → (answer-2 m b n root ipa access ≡ Refused) ↔ (stage2-fits (length m) b n root ipa access ≡ false)
 unfolding answer-2
 refused-2 m b n root ipa access =
     let w = stage-2 m b root access ipa in
-    exactly (stage2-fits (length m) b n root ipa access) (tell-2 (w .result) (length (w .fetched))) (told-2 (w .result) (length (w .fetched)))
+    exactly (stage2-fits (length m) b n root ipa access) (alone (w .result)) (length (w .fetched))
 
 pub refused : (m : List ℕ) (b n root1 root2 va access el : ℕ)
     → (answer m b n root1 root2 va access el ≡ Refused) ↔ (both-fits (length m) b n root1 root2 access el ≡ false)
 unfolding answer
 refused m b n root1 root2 va access el =
     let w = both m b root1 root2 va access el in
-    exactly (both-fits (length m) b n root1 root2 access el) (tell (w .result) (length (w .fetched))) (told (w .result) (length (w .fetched)))
+    exactly (both-fits (length m) b n root1 root2 access el) (w .result) (length (w .fetched))

@@ -1,10 +1,9 @@
 -- Written by tools/prove from the file answers beside it: edit that, and not this.
--- The descriptor's way through stage 2, and then the descriptor, decide how the walk goes on.
-use mathlib.Core.Path.{subst, sym}
-use Rattle.walk.proofs.Laws.Short.{LowEnd}
-use Rattle.walk.proofs.Laws.Walk1.{was-lost, way-low, went-down, below, went-out, went-wrong, was-absent}
+-- The descriptor's way through stage 2 decides how the walk goes on.
+use Rattle.walk.proofs.Laws.Walk.{arrives, was-lost, way-low, followed}
 use borrow.Author.Needs.{needs}
 use native.Mathlib.Omega.{arith}
+use mathlib.Core.Path.{sym}
 use Rattle.walk.proofs.stage_1.turn.Statement.{statement}
 use Rattle.walk.proofs.stage_1.turn.Tie as tie
 
@@ -20,63 +19,17 @@ enum-known-way c = search needs
 enum-known-way-2 : tie.Need-enum-known-way-2
 enum-known-way-2 c = search needs
 
-visit-requires : tie.Need-visit-requires
-visit-requires c κs = let low = (subst (LowEnd _) (c .before .way2 .given .1) (way-low _ _ _ 0 0 _ _ _ _ (c .before .before .before .before .before .before .pre .0) (c .before .before .before .before .place .ensures .0) (c .before .before .before .walk .ensures))) in
-    let low0 = low .0 in
-    (omega arith, omega arith)
-
-enum-known-step : tie.Need-enum-known-step
-enum-known-step c = search needs
-
-add-t24 : tie.Need-add-t24
-add-t24 c = let low = (subst (LowEnd _) (c .before .before .before .before .before .way2 .given .1) (way-low _ _ _ 0 0 _ _ _ _ (c .before .before .before .before .before .before .before .before .before .before .pre .0) (c .before .before .before .before .before .before .before .before .place .ensures .0) (c .before .before .before .before .before .before .before .walk .ensures))) in
-    let low1 = low .1 in
-    omega arith
-
-enum-known-step-2 : tie.Need-enum-known-step-2
-enum-known-step-2 c = search needs
-
-add-walk : tie.Need-add-walk
-add-walk c = let low = (subst (LowEnd _) (c .before .before .before .before .before .way2 .given .1) (way-low _ _ _ 0 0 _ _ _ _ (c .before .before .before .before .before .before .before .before .before .before .pre .0) (c .before .before .before .before .before .before .before .before .place .ensures .0) (c .before .before .before .before .before .before .before .walk .ensures))) in
-    let low1 = low .1 in
-    omega arith
-
-walk-requires-2 : tie.Need-walk-requires-2
-walk-requires-2 c κs = let low = (subst (LowEnd _) (c .before .before .before .before .before .way2 .given .1) (way-low _ _ _ 0 0 _ _ _ _ (c .before .before .before .before .before .before .before .before .before .before .pre .0) (c .before .before .before .before .before .before .before .before .place .ensures .0) (c .before .before .before .before .before .before .before .walk .ensures))) in
-    let low1 = low .1 in
-    (omega arith, omega arith)
-
-finish-requires : tie.Need-finish-requires
-finish-requires c κs = search needs
-
-enum-known-step-3 : tie.Need-enum-known-step-3
-enum-known-step-3 c = search needs
-
-add-t28 : tie.Need-add-t28
-add-t28 c = let low = (subst (LowEnd _) (c .before .before .before .before .before .way2 .given .1) (way-low _ _ _ 0 0 _ _ _ _ (c .before .before .before .before .before .before .before .before .before .before .pre .0) (c .before .before .before .before .before .before .before .before .place .ensures .0) (c .before .before .before .before .before .before .before .walk .ensures))) in
-    let low1 = low .1 in
-    omega arith
-
-enum-told : tie.Need-enum-told
-enum-told c = search needs
+follow-requires : tie.Need-follow-requires
+follow-requires c κs = let low = way-low (arrives _ _ _ (c .before .before .before .before .before .before .args .access) (c .before .before .before .before .before .before .args .el) _ _ _ _ (c .before .before .before .before .before .before .pre .0) (c .before .before .before .before .place .ensures .0) (c .before .before .before .walk .ensures)) (c .before .way2 .given .1) in
+    let near = low .0 in
+    let few = low .1 in
+    (omega arith, omega arith, omega arith, omega arith)
 
 returns : tie.Need-returns
-returns c = sym (was-lost _ _ _ _ _ _ _ _ _ (c .before .before .before .before .before .before .pre .0) (c .before .before .before .before .place .ensures .0) (c .before .before .before .walk .ensures) _ _ _ (c .before .way .given .1))
+returns c = record { so = sym (was-lost (arrives _ _ _ (c .before .before .before .before .before .before .args .access) (c .before .before .before .before .before .before .args .el) _ _ _ _ (c .before .before .before .before .before .before .pre .0) (c .before .before .before .before .place .ensures .0) (c .before .before .before .walk .ensures)) (c .before .way .given .1)) }
 
 returns-2 : tie.Need-returns-2
-returns-2 c = let low = (subst (LowEnd _) (c .before .before .before .before .before .way2 .given .1) (way-low _ _ _ 0 0 _ _ _ _ (c .before .before .before .before .before .before .before .before .before .before .pre .0) (c .before .before .before .before .before .before .before .before .place .ensures .0) (c .before .before .before .before .before .before .before .walk .ensures))) in
-    let low1 = low .1 in
-    let up = below _ _ _ _ _ _ _ _ _ (c .before .before .before .before .before .before .before .before .before .before .pre .0) (c .before .before .before .before .before .before .before .before .place .ensures .0) (c .before .before .before .before .before .before .before .walk .ensures) (c .before .before .before .before .before .way2 .given .1) (c .before .before .before .visit .ensures) _ (c .before .step .given .1) in
-    (up .0, up .1, omega arith, went-down _ _ _ _ _ _ _ _ _ (c .before .before .before .before .before .before .before .before .before .before .pre .0) (c .before .before .before .before .before .before .before .before .place .ensures .0) (c .before .before .before .before .before .before .before .walk .ensures) (c .before .before .before .before .before .way2 .given .1) (c .before .before .before .visit .ensures) _ (c .before .step .given .1))
-
-returns-3 : tie.Need-returns-3
-returns-3 c = went-out _ _ _ _ _ _ _ _ _ (c .before .before .before .before .before .before .before .before .before .before .before .before .pre .0) (c .before .before .before .before .before .before .before .before .before .before .place .ensures .0) (c .before .before .before .before .before .before .before .before .before .walk .ensures) (c .before .before .before .before .before .before .before .way2 .given .1) (c .before .before .before .before .before .visit .ensures) _ (c .before .before .before .step2 .given .1) (c .before .walk2 .ensures) (c .finish .ensures)
-
-returns-4 : tie.Need-returns-4
-returns-4 c = sym (went-wrong _ _ _ _ _ _ _ _ _ (c .before .before .before .before .before .before .before .before .before .before .pre .0) (c .before .before .before .before .before .before .before .before .place .ensures .0) (c .before .before .before .before .before .before .before .walk .ensures) (c .before .before .before .before .before .way2 .given .1) (c .before .before .before .visit .ensures) _ (c .before .step3 .given .1))
-
-returns-5 : tie.Need-returns-5
-returns-5 c = sym (was-absent _ _ _ _ _ _ _ _ _ (c .before .before .before .before .before .before .before .before .before .pre .0) (c .before .before .before .before .before .before .before .place .ensures .0) (c .before .before .before .before .before .before .walk .ensures) (c .before .before .before .before .way2 .given .1) (c .before .before .visit .ensures) (c .enum-told .given .1))
+returns-2 c = followed (arrives _ _ _ (c .before .before .before .before .before .before .before .args .access) (c .before .before .before .before .before .before .before .args .el) _ _ _ _ (c .before .before .before .before .before .before .before .pre .0) (c .before .before .before .before .before .place .ensures .0) (c .before .before .before .before .walk .ensures)) (c .before .before .way2 .given .1) (c .follow .ensures)
 
 pub turn-spec : {M : Type 1} → statement M
 turn-spec =
@@ -86,18 +39,6 @@ turn-spec =
     walk-requires
     enum-known-way
     enum-known-way-2
-    visit-requires
-    enum-known-step
-    add-t24
-    enum-known-step-2
-    add-walk
-    walk-requires-2
-    finish-requires
-    enum-known-step-3
-    add-t28
-    enum-told
+    follow-requires
     returns
-    returns-2
-    returns-3
-    returns-4
-    returns-5)
+    returns-2)

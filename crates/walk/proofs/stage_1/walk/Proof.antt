@@ -1,10 +1,10 @@
 -- Written by tools/prove from the file answers beside it: edit that, and not this.
 -- At each level the walk from here on, with what was fetched before, is the whole walk.
 use Prim.Native.Nat.{_+_, _*_, _-_, _≤_, _<_, _^_}
-use mathlib.Core.Path.{_≡_, subst, _∙_, sym}
+use mathlib.Core.Path.{_≡_, _∙_, sym}
 use Rattle.walk.specs.Both.{stage-1}
-use Rattle.walk.specs.Steps.{told, rest-1, Turns}
-use Rattle.walk.proofs.Laws.Walk1.{told-from}
+use Rattle.walk.specs.Steps.{told, rest-1}
+use Rattle.walk.proofs.Laws.Walk.{told-from, was-told, went-on}
 use borrow.Author.Needs.{needs}
 use native.Mathlib.Omega.{arith}
 use Rattle.walk.proofs.stage_1.walk.Statement.{statement}
@@ -28,7 +28,7 @@ enum-known-t : tie.Need-enum-known-t Inv-loop μ-loop
 enum-known-t c = search needs
 
 returns : tie.Need-returns Inv-loop μ-loop
-returns c = subst (Turns _ _ _ _ _ _ _ _ _) (c .before .t .given .1) (c .before .before .before .turn .ensures) ∙ sym (c .before .before .before .before .loop .inv .3)
+returns c = was-told (c .before .before .before .turn .ensures) (c .before .t .given .1) ∙ sym (c .before .before .before .before .loop .inv .3)
 
 enum-known-t-2 : tie.Need-enum-known-t-2 Inv-loop μ-loop
 enum-known-t-2 c = search needs
@@ -37,12 +37,11 @@ add-level : tie.Need-add-level Inv-loop μ-loop
 add-level c = search needs
 
 loop-less : tie.Need-loop-less Inv-loop μ-loop
-loop-less c = let next = subst (Turns _ _ _ _ _ _ _ _ _) (c .before .t2 .given .1) (c .before .before .before .turn .ensures) in
-    let up = next .0 in
+loop-less c = let up = (went-on (c .before .before .before .turn .ensures) (c .before .t2 .given .1)) .0 in
     omega arith
 
 loop-again : tie.Need-loop-again Inv-loop μ-loop
-loop-again c = let next = subst (Turns _ _ _ _ _ _ _ _ _) (c .before .t2 .given .1) (c .before .before .before .turn .ensures) in
+loop-again c = let next = (went-on (c .before .before .before .turn .ensures) (c .before .t2 .given .1)) in
     let up = next .0 in
     let few = next .2 in
     (omega arith, next .1, omega arith, c .before .before .before .before .loop .inv .3 ∙ next .3)

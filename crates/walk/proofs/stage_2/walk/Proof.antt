@@ -4,7 +4,8 @@ use Prim.Native.Nat.{_+_, _-_, _≤_, _<_, _^_}
 use mathlib.Core.Path.{_≡_, _∙_, sym}
 use Rattle.walk.specs.Both.{stage-2}
 use Rattle.walk.specs.Steps.{ended, rest-2}
-use Rattle.walk.proofs.Laws.Walk2.{went-down, went-out, went-wrong, was-absent, from-root, below}
+use Rattle.walk.proofs.Laws.Told.{tells-now}
+use Rattle.walk.proofs.Laws.Walk.{turned-2, from-root, lower, went-down, went-out, went-wrong, was-absent}
 use borrow.Author.Needs.{needs}
 use native.Mathlib.Omega.{arith}
 use Rattle.walk.proofs.stage_2.walk.Statement.{statement}
@@ -34,14 +35,13 @@ add-level : tie.Need-add-level Inv-loop μ-loop
 add-level c = search needs
 
 loop-less : tie.Need-loop-less Inv-loop μ-loop
-loop-less c = let up = below _ _ _ _ _ _ 0 (c .before .before .before .before .before .loop .inv .0) (c .before .before .before .before .place .ensures .0) (c .before .before .before .visit .ensures) _ (c .before .step .given .1) in
-    let up0 = up .0 in
+loop-less c = let up = lower (turned-2 _ _ _ _ _ _ (c .before .before .before .before .before .before .before .args .before + c .before .before .before .before .before .loop .level) (c .before .before .before .before .before .loop .inv .0) (c .before .before .before .before .place .ensures .0) (c .before .before .before .visit .ensures)) (c .before .step .given .1) .0 in
     omega arith
 
 loop-again : tie.Need-loop-again Inv-loop μ-loop
-loop-again c = let up = below _ _ _ _ _ _ 0 (c .before .before .before .before .before .loop .inv .0) (c .before .before .before .before .place .ensures .0) (c .before .before .before .visit .ensures) _ (c .before .step .given .1) in
+loop-again c = let up = lower (turned-2 _ _ _ _ _ _ (c .before .before .before .before .before .before .before .args .before + c .before .before .before .before .before .loop .level) (c .before .before .before .before .before .loop .inv .0) (c .before .before .before .before .place .ensures .0) (c .before .before .before .visit .ensures)) (c .before .step .given .1) in
     let up0 = up .0 in
-    (omega arith, up .1, c .before .before .before .before .before .loop .inv .2 ∙ went-down _ _ _ _ _ _ _ (c .before .before .before .before .before .loop .inv .0) (c .before .before .before .before .place .ensures .0) (c .before .before .before .visit .ensures) _ _ (c .before .step .given .1) (omega arith))
+    (omega arith, up .1, c .before .before .before .before .before .loop .inv .2 ∙ went-down (turned-2 _ _ _ _ _ _ (c .before .before .before .before .before .before .before .args .before + c .before .before .before .before .before .loop .level) (c .before .before .before .before .before .loop .inv .0) (c .before .before .before .before .place .ensures .0) (c .before .before .before .visit .ensures)) (c .before .step .given .1) (omega arith))
 
 enum-known-step-2 : tie.Need-enum-known-step-2 Inv-loop μ-loop
 enum-known-step-2 c = search needs
@@ -53,7 +53,7 @@ add-t15 : tie.Need-add-t15 Inv-loop μ-loop
 add-t15 c = search needs
 
 returns : tie.Need-returns Inv-loop μ-loop
-returns c = sym (c .before .before .before .before .before .loop .inv .2 ∙ went-out _ _ _ _ _ _ _ (c .before .before .before .before .before .loop .inv .0) (c .before .before .before .before .place .ensures .0) (c .before .before .before .visit .ensures) _ (c .before .step2 .given .1))
+returns c = sym (c .before .before .before .before .before .loop .inv .2 ∙ went-out (turned-2 _ _ _ _ _ _ (c .before .before .before .before .before .before .before .args .before + c .before .before .before .before .before .loop .level) (c .before .before .before .before .before .loop .inv .0) (c .before .before .before .before .place .ensures .0) (c .before .before .before .visit .ensures)) (c .before .step2 .given .1) ∙ tells-now _ _ _)
 
 enum-known-step-3 : tie.Need-enum-known-step-3 Inv-loop μ-loop
 enum-known-step-3 c = search needs
@@ -65,7 +65,7 @@ add-t17 : tie.Need-add-t17 Inv-loop μ-loop
 add-t17 c = search needs
 
 returns-2 : tie.Need-returns-2 Inv-loop μ-loop
-returns-2 c = sym (c .before .before .before .before .before .loop .inv .2 ∙ went-wrong _ _ _ _ _ _ _ (c .before .before .before .before .before .loop .inv .0) (c .before .before .before .before .place .ensures .0) (c .before .before .before .visit .ensures) _ (c .before .step3 .given .1))
+returns-2 c = sym (c .before .before .before .before .before .loop .inv .2 ∙ went-wrong (turned-2 _ _ _ _ _ _ (c .before .before .before .before .before .before .before .args .before + c .before .before .before .before .before .loop .level) (c .before .before .before .before .before .loop .inv .0) (c .before .before .before .before .place .ensures .0) (c .before .before .before .visit .ensures)) (c .before .step3 .given .1))
 
 enum-told : tie.Need-enum-told Inv-loop μ-loop
 enum-told c = search needs
@@ -74,7 +74,7 @@ add-t19 : tie.Need-add-t19 Inv-loop μ-loop
 add-t19 c = search needs
 
 returns-3 : tie.Need-returns-3 Inv-loop μ-loop
-returns-3 c = sym (c .before .before .before .before .loop .inv .2 ∙ was-absent _ _ _ _ _ _ _ (c .before .before .before .before .loop .inv .0) (c .before .before .before .place .ensures .0) (c .before .before .visit .ensures) (c .enum-told .given .1))
+returns-3 c = sym (c .before .before .before .before .loop .inv .2 ∙ was-absent (turned-2 _ _ _ _ _ _ (c .before .before .before .before .before .before .args .before + c .before .before .before .before .loop .level) (c .before .before .before .before .loop .inv .0) (c .before .before .before .place .ensures .0) (c .before .before .visit .ensures)) (c .enum-told .given .1))
 
 pub walk-spec : {M : Type 1} → statement M
 walk-spec =
