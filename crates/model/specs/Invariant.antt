@@ -22,6 +22,7 @@ pub mod Allowed
 pub mod Orderly
 pub mod Effects
 pub mod Bytes
+pub mod Reaching
 pub mod Unreached
 pub mod Linked
 pub mod Hung

@@ -7,6 +7,8 @@ pub mod Reach
 pub mod TwoGuests
 pub mod Writing
 pub mod Private
+-- The other way round: what is mapped is reached.
+pub mod Mapped
 -- A page changes hands; a frame becomes a table; a guest is created.
 pub mod ChangesHands
 pub mod BecomesTable

@@ -1,5 +1,4 @@
--- What is mapped is reached; choices exist.
-pub mod Reaching
+-- Choices exist.
 pub mod Lowest
 -- The run of document 03, section 5, and the machine over it; one that shares for writing and destroys a guest; two that differ in what others did.
 pub mod Runs

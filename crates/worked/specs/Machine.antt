@@ -1,6 +1,6 @@
 -- The worked run as a run of the machine: set-up is accepted, and the asks are steps.
 use mathlib.Core.Path.{_≡_, refl, ap, subst, _∙_}
-use mathlib.Core.Bool.{true}
+use mathlib.Core.Bool.{true, false}
 use mathlib.Core.List.{List, [], _∷_}
 use mathlib.Core.Option.{none, some}
 use Prim.Native.Nat.{ℕ, _+_, _*_, _<_}
@@ -11,8 +11,8 @@ use Rattle.model.specs.Operations.{Out, refuse, done, check, set-up}
 use Rattle.model.specs.Cache.{Caches, nothing-kept, grown, Access, reading, writing, grants, Reach, kept}
 use Rattle.model.specs.Machine.{Machine, answer, keeps, settle, call, calls, Run, stop, then, SetUp, Reaches}
 use Rattle.model.specs.Invariant.Holds.{holds}
-use Rattle.worked.specs.Reaching.{Silent, call-keeps, found, reaches-mapped}
-use Rattle.worked.specs.Runs.{Ask, creates, destroys, invalidates, gives, takes, maps, unmaps, shares-with, unshares, operation, chosen, after, state-after, begin, sharing, draining, reuse, after-11, after-19, after-32, shared-then, drains-then, handed-on, first-page}
+use Rattle.model.specs.Invariant.Reaching.{reported, call-keeps, found, reaches-mapped}
+use Rattle.worked.specs.Runs.{Ask, creates, operation, chosen, after, state-after, begin, sharing, draining, reuse, after-11, after-19, after-32, shared-then, drains-then, handed-on, first-page}
 
 unfoldable pub machine-after : Machine → List Ask → Machine
 machine-after m [] = m
@@ -80,27 +80,7 @@ state-32 = asked-state machine-19 reuse state-19
 
 -- what was kept stays through asks that do not report g's invalidation
 abbrev Quiet : ℕ → Ask → Type 0
-Quiet g (creates h) = Unit {0}
-Quiet g (destroys h) = Unit {0}
-Quiet g (invalidates h) = g ≡ h → ⊥
-Quiet g (gives f h) = Unit {0}
-Quiet g (takes f h) = Unit {0}
-Quiet g (maps f h a r) = Unit {0}
-Quiet g (unmaps h a) = Unit {0}
-Quiet g (shares-with h f h′ w) = Unit {0}
-Quiet g (unshares h f h′) = Unit {0}
-
-silent : (s : State) (g : ℕ) (a : Ask) → Quiet g a → Silent g (operation s a)
-unfolding operation
-silent s g (creates h) n = n
-silent s g (destroys h) n = n
-silent s g (invalidates h) n = n
-silent s g (gives f h) n = n
-silent s g (takes f h) n = n
-silent s g (maps f h a r) n = n
-silent s g (unmaps h a) n = n
-silent s g (shares-with h f h′ w) n = n
-silent s g (unshares h f h′) n = n
+Quiet g a = (s : State) → reported g (operation s a) ≡ false
 
 abbrev All-quiet : ℕ → List Ask → Type 0
 All-quiet g [] = Unit {0}
@@ -109,7 +89,7 @@ All-quiet g (a ∷ rest) = Quiet g a × All-quiet g rest
 keeps-on : (m : Machine) (g : ℕ) (l : List Ask) → All-quiet g l → (v x r : ℕ) → m .caches .page-kept g v x r → machine-after m l .caches .page-kept g v x r
 unfolding machine-after
 keeps-on m g [] q v x r a = a
-keeps-on m g (b ∷ rest) q v x r a = keeps-on (call m (operation (m .state) b)) g rest (q .1) v x r (call-keeps m (operation (m .state) b) g (silent (m .state) g b (q .0)) v x r a)
+keeps-on m g (b ∷ rest) q v x r a = keeps-on (call m (operation (m .state) b)) g rest (q .1) v x r (call-keeps m (operation (m .state) b) g (q .0 (m .state)) v x r a)
 
 -- after a call the processor has looked at the state that is there
 abbrev pub Looked : Machine → Type 1
@@ -157,7 +137,7 @@ unfolding machine-19 draining
 kept-19 = subst (λ (x : ℕ). machine-after machine-11 draining .caches .page-kept 1 0x80000 x 3) (ap (λ (x : ℕ). x + 8) first-11) (keeps-on machine-11 1 draining quiet 0x80000 (machine-11 .state .first + 8) 3 kept-11)
   where
     quiet : All-quiet 1 draining
-    quiet = (tt, (tt, (tt, ((λ (e : _≡_ {A = ℕ} 1 2). omega arith), (tt, (tt, (tt, (tt, tt))))))))
+    quiet = unfold operation in (λ s. refl, (λ s. refl, (λ s. refl, (λ s. refl, (λ s. refl, (λ s. refl, (λ s. refl, (λ s. refl, tt))))))))
 
 pub stale : Reaches machine-19 1 writing 0x40008000
 unfolding Reach

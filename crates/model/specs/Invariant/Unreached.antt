@@ -7,11 +7,12 @@ use Rattle.model.specs.State.{State, free, table, page, draining-page}
 use Rattle.model.specs.Entry.{to-page}
 use Rattle.model.specs.Translate.{entry-at}
 use Rattle.model.specs.Operations.{Out, refuse, done}
-use Rattle.model.specs.Cache.{Caches, forget, Translation, kept, grown, Access, Reach}
-use Rattle.model.specs.Machine.{Machine, Operation, Create, Give, Take, Map, Unmap, Share, Unshare, Destroy, Invalidated, answer, Chooses, keeps, settle, call, stored, write, Step, calls, stores, Reaches}
+use Rattle.model.specs.Cache.{Caches, Translation, kept, grown, Access, Reach}
+use Rattle.model.specs.Machine.{Machine, Operation, answer, Chooses, keeps, settle, call, stored, write, Step, calls, stores, Reaches}
 use Rattle.model.specs.Theorems.Terms.{Handed, Laid}
 use Rattle.model.specs.Invariant.Kinds.{clash}
 use Rattle.model.specs.Invariant.Core.{Core, Kept}
+use Rattle.model.specs.Invariant.Reaching.{kept-before}
 use Rattle.model.specs.Invariant.Found.{traced, grown-kept}
 use Rattle.model.specs.Invariant.Answer.{then-is, Sound}
 use Rattle.model.specs.Invariant.Orderly.{Fresh, orderly}
@@ -46,18 +47,6 @@ module _ (s : State) (k : Caches) (c : Core s) (q : Kept s k) (f : ℕ) (u : Unl
   unfolding grown
   unled-grown = record { none-kept = λ g v x r a e. no-translation a e; no-entry = u .no-entry; not-draining = u .not-draining }
 
-pub keeps-less : (k : Caches) (o : Operation) (g v x r : ℕ) → keeps k o .page-kept g v x r → k .page-kept g v x r
-unfolding keeps forget
-keeps-less k (Create g′ pick) g v x r a = a
-keeps-less k (Give f g′) g v x r a = a
-keeps-less k (Take f g′) g v x r a = a
-keeps-less k (Map f g′ a′ r′ pick) g v x r a = a
-keeps-less k (Unmap g′ a′) g v x r a = a
-keeps-less k (Share g′ f h w) g v x r a = a
-keeps-less k (Unshare g′ f h) g v x r a = a
-keeps-less k (Destroy g′) g v x r a = a
-keeps-less k (Invalidated g′) g v x r a = a .1
-
 module _ (z : Machine) (h : Holds z) (f g : ℕ) (not-yet : z .state .kind f ≡ page g → ⊥) where
   s : State
   s = z .state
@@ -81,7 +70,7 @@ module _ (z : Machine) (h : Holds z) (f g : ℕ) (not-yet : z .state .kind f ≡
 
       none : z .state .kind f ≡ free → (g′ v x r : ℕ) → keeps (z .caches) o .page-kept g′ v x r → x ≡ s′ .first + f → ⊥
       none free? g′ v x r a x= =
-          let y = h .kept .page-ok g′ v x r (keeps-less (z .caches) o g′ v x r a) in
+          let y = h .kept .page-ok g′ v x r (kept-before (z .caches) o g′ v x r a .1) in
           let y1 = y .1 in
           let q = first= in
           let f= : y .0 ≡ f = omega arith in

@@ -22,7 +22,8 @@ use Rattle.model.specs.Invariant.Answer.{Then, then-done, then-is, checked}
 use Rattle.model.specs.Invariant.Holds.{Holds}
 use Rattle.model.specs.Invariant.Bytes.{bytes-zero}
 use Rattle.two_runs.specs.Invariant.Apart.{role, role-of, role-after, dirty-after}
-use Rattle.two_runs.specs.Invariant.ApartKept.{reported, Sane, sane-holds, now-kept}
+use Rattle.model.specs.Invariant.Reaching.{reported}
+use Rattle.two_runs.specs.Invariant.ApartKept.{Sane, sane-holds, now-kept}
 use Rattle.two_runs.specs.Invariant.ApartSteps.{Called, not-shown, is-shown, shown-role}
 use Rattle.two_runs.specs.Invariant.ApartFrames.{flip, Covers, same-eqb, new-eqb}
 

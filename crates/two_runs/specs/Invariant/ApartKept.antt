@@ -2,25 +2,22 @@
 use mathlib.Core.Path.{_≡_, refl, sym, ap, _∙_}
 use mathlib.Core.Bool.{Bool, true, false, cond}
 use mathlib.Core.Logic.{_⊎_, inl, inr}
-use mathlib.Core.Option.{none, some}
-use Prim.Native.Nat.{ℕ, zero, suc, _+_, _<_, _/_, _%_}
+use mathlib.Core.Option.{some}
+use Prim.Native.Nat.{ℕ, _+_, _<_, _/_, _%_}
 use native.Mathlib.Omega.{arith}
-use native.Mathlib.Nat.{div-add-mod'}
 use lib.Dec.{eqb}
-use borrow.Author.Tests.{leb-true, eqb-false, eq-eqb, ne-eqb}
+use borrow.Author.Tests.{leb-true, eq-eqb, ne-eqb}
 use Rattle.model.specs.Base.{upd, upd2}
 use Rattle.model.specs.State.{State, Kind, free, table, draining-table, page, draining-page, free-frames, pages}
-use Rattle.model.specs.Entry.{Entry, empty, to-table, to-page, other, entry}
-use Rattle.model.specs.EntryLaws.{is-table, is-to-page, page-low, descriptor-table, descriptor-page}
-use Rattle.model.specs.Translate.{upper, index, entry-at, into, descend, translate, missing}
+use Rattle.model.specs.Entry.{to-page, entry}
+use Rattle.model.specs.Translate.{entry-at, translate, missing}
 use Rattle.model.specs.Changes.{Choice, zeros, becomes, with-root, with-page, with-mapping, without-page, drained, without-guest, released, clean}
 use Rattle.model.specs.Operations.{Out, refuse, done, create, give, map, unmap, share, unshare, take, destroy, invalidated}
-use Rattle.model.specs.Cache.{Caches, nothing-kept, Table, from-root, from-word, Translation, kept, read-off, descriptor, next, output, inside, forget}
+use Rattle.model.specs.Cache.{Caches, nothing-kept, Translation, kept}
 use Rattle.model.specs.Machine.{Machine, Operation, Create, Give, Take, Map, Unmap, Share, Unshare, Destroy, Invalidated, answer, Chooses, keeps, Run, SetUp}
 use Rattle.model.specs.Invariant.Kinds.{sort, clash, kind-from}
-use Rattle.model.specs.Invariant.Core.{Core, Kept, low, in-room}
-use Rattle.model.specs.Invariant.Way.{root-serves, step-kind, leaf-kind, leaf-from, translate-from}
-use Rattle.model.specs.Invariant.Pages.{may-room}
+use Rattle.model.specs.Invariant.Core.{Core, Kept}
+use Rattle.model.specs.Invariant.Way.{translate-from}
 use Rattle.model.specs.Invariant.Found.{traced}
 use Rattle.model.specs.Invariant.Destroy.{Was, stays, was-table, was-page, was}
 use Rattle.model.specs.Invariant.Invalidated.{released-from}
@@ -29,63 +26,11 @@ use Rattle.model.specs.Invariant.Answer.{Then, then-refuse, then-done, then-is,
 use Rattle.model.specs.Invariant.Holds.{Holds, holds, answer-good, nothing-ok}
 use Rattle.model.specs.Invariant.Orderly.{Orderly, orderly}
 use Rattle.model.specs.Invariant.Linked.{Linked}
+use Rattle.model.specs.Invariant.Reaching.{reported, kept-after, found}
 use Rattle.model.specs.Invariant.Hung.{hung, last-low, entry-translates}
 use Rattle.two_runs.specs.Invariant.Alike.{Closed}
 
--- what the tables say, the processor finds
-module _ (s : State) (c : Core s) (k : Caches) (g v : ℕ) where
-  way-down : (h t : ℕ) → s .kind t ≡ table g h (upper (suc h) v) → Table s k g h (upper (suc h) v) (s .first + t) → (u : ℕ) → descend s h t v ≡ some u → Table s k g 0 (upper 1 v) (s .first + u)
-  unfolding descend
-  way-down zero t a x u e = let z : t ≡ u = cc in rw z at x
-  way-down (suc h) t a x u e = go (way-down h) (entry-at s t i) refl e
-    where
-      i : ℕ
-      i = index (suc h) v
-
-      down : (t′ : ℕ) → entry-at s t i ≡ to-table t′ → s .kind t′ ≡ table g h (upper (suc h) v) → Table s k g h (upper (suc h) v) (s .first + t′)
-      down t′ q b = unfold upper in
-          let room = in-room s c t′ (table g h (upper (suc h) v)) b refl in
-          let d : descriptor (suc h) (s .word t i) ≡ next (s .first + t′) = ap (descriptor (suc h)) (is-table (s .first) (s .word t i) t′ q) ∙ descriptor-table (s .first) t′ room h in
-          let w = from-word x t i refl (low s c t (table g (suc h) (upper (suc (suc h)) v)) a refl) (omega arith) d in
-          rw (div-add-mod' (upper h v / 512) 512) at w
-
-      go : ((t : ℕ) → s .kind t ≡ table g h (upper (suc h) v) → Table s k g h (upper (suc h) v) (s .first + t) → (u : ℕ) → descend s h t v ≡ some u → Table s k g 0 (upper 1 v) (s .first + u)) →
-          (y : Entry) → entry-at s t i ≡ y → into y none (λ t′. descend s h t′ v) ≡ some u → Table s k g 0 (upper 1 v) (s .first + u)
-      go ih empty q e = let z : _≡_ {A = ℕ} 0 1 = cc in absurd (omega arith)
-      go ih (to-table t′) q e = let b = step-kind s c g h t v t′ a q in ih t′ b (down t′ q b) u e
-      go ih (to-page f r) q e = let z : _≡_ {A = ℕ} 0 1 = cc in absurd (omega arith)
-      go ih (other y) q e = let z : _≡_ {A = ℕ} 0 1 = cc in absurd (omega arith)
-
-  root-table : s .exists g ≡ true → v < pages → Table s k g 3 (upper 4 v) (s .first + s .root g)
-  unfolding upper
-  root-table e l = let z : v / 512 / 512 / 512 / 512 ≡ 0 = omega arith in rw z (from-root e refl)
-
-  pub translates : (f r : ℕ) → v < pages → translate s g v ≡ some (f, r) → Translation s k g v (s .first + f) r
-  unfolding upper inside
-  translates f r l e =
-      let w = translate-from s g v f r e in
-      let t = w .0 in
-      let lf = leaf-from s c g v t (w .1) in
-      let kt = leaf-kind s c g v t l (w .1) in
-      let m = rw (w .2) at (c .tables t g 0 (v / 512) kt (v % 512) (omega arith)) in
-      let d : descriptor 0 (s .word t (v % 512)) ≡ output (s .first + f) r =
-      ap (descriptor 0) (is-to-page (s .first) (s .word t (v % 512)) f r (w .2)) ∙ descriptor-page (s .first) f r (may-room s c g f r m) (page-low (s .first) (s .word t (v % 512)) f r (w .2)) in
-      let x = way-down 3 (s .root g) (root-serves (s .kind (s .root g)) g v (c .roots g (lf .0)) l) (root-table (lf .0) l) t (lf .1) in
-      read-off 0 (s .first + t) t (s .first + f) x refl (low s c t (table g 0 (v / 512)) kt refl) d refl
-
--- only destroy makes tables drain, and what drains keeps its words; a report for g leaves no table that drains for g
-abbrev pub reported : (g : ℕ) → Operation → Bool
-reported g (Create h pick) = false
-reported g (Give f h) = false
-reported g (Take f h) = false
-reported g (Map f h a r pick) = false
-reported g (Unmap h a) = false
-reported g (Share o f h w) = false
-reported g (Unshare o f h) = false
-reported g (Destroy h) = false
-reported g (Invalidated h) = eqb h g
-
--- such a table was there before
+-- only destroy makes tables drain, and what drains keeps its words; a report for g leaves no table that drains for g. Such a table was there before
 pub record Was-there (g : ℕ) (s : State) (o : Operation) (s′ : State) : Type 0 where
   pub table-there : (t h p : ℕ) → s′ .kind t ≡ draining-table g h p → (s .kind t ≡ draining-table g h p) ⊎ (s .kind t ≡ table g h p)
   pub words : (t h p : ℕ) → s′ .kind t ≡ draining-table g h p → (i : ℕ) → s′ .word t i ≡ s .word t i
@@ -210,22 +155,10 @@ sane-holds x = holds (x .set-up) (x .run)
 pub sane-linked : {m : Machine} → Sane m → Linked (m .state)
 sane-linked x = hung (x .set-up) (x .run)
 
-pub keeps-more : (k : Caches) (o : Operation) (g v x r : ℕ) → reported g o ≡ false → k .page-kept g v x r → keeps k o .page-kept g v x r
-unfolding keeps forget
-keeps-more k (Create h pick) g v x r e a = a
-keeps-more k (Give f h) g v x r e a = a
-keeps-more k (Take f h) g v x r e a = a
-keeps-more k (Map f h b q pick) g v x r e a = a
-keeps-more k (Unmap h b) g v x r e a = a
-keeps-more k (Share o f h w) g v x r e a = a
-keeps-more k (Unshare o f h) g v x r e a = a
-keeps-more k (Destroy h) g v x r e a = a
-keeps-more k (Invalidated h) g v x r e a = (λ (p : g ≡ h). eqb-false h g e (sym p), a)
-
 module _ {m : Machine} (x : Sane m) where
   -- what the tables say now has been kept
   pub now-kept : (g v f r : ℕ) → v < pages → translate (m .state) g v ≡ some (f, r) → m .caches .page-kept g v (m .state .first + f) r
-  now-kept g v f r l e = x .closed .pages g v (m .state .first + f) r (translates (m .state) (sane-holds x .core) (m .caches) g v f r l e)
+  now-kept g v f r l e = x .closed .pages g v (m .state .first + f) r (found (m .state) (sane-holds x .core) (m .caches) g v f r l e)
 
   -- and so has what stands in any last table
   entry-kept : (t g v f r : ℕ) → (m .state .kind t ≡ draining-table g 0 (v / 512)) ⊎ (m .state .kind t ≡ table g 0 (v / 512)) → entry-at (m .state) t (v % 512) ≡ to-page f r → m .caches .page-kept g v (m .state .first + f) r
@@ -247,7 +180,7 @@ module _ {m : Machine} (x : Sane m) where
         let w = then-is (answer (m .state) o) s′ (answer-there g (m .state) (sane-holds x .core) o ch) e in
         let f= = same-first in
         let same : entry-at s′ t (v % 512) ≡ entry-at (m .state) t (v % 512) = ap (λ (z : ℕ). entry z (s′ .word t (v % 512))) f= ∙ ap (entry (m .state .first)) (w .words t 0 (v / 512) k (v % 512)) in
-        rw f= (keeps-more (m .caches) o g v (m .state .first + f) r (w .no-report t 0 (v / 512) k) (entry-kept t g v f r (w .table-there t 0 (v / 512) k) (sym same ∙ n)))
+        rw f= (kept-after (m .caches) o g v (m .state .first + f) r (w .no-report t 0 (v / 512) k) (entry-kept t g v f r (w .table-there t 0 (v / 512) k) (sym same ∙ n)))
 
 -- what is found was kept, or the tables say it now
 module _ (s : State) (k : Caches) (c : Core s) (q : Kept s k) (l : Linked s) (g : ℕ)

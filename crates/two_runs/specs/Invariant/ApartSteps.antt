@@ -12,7 +12,7 @@ use Rattle.model.specs.State.{State, Kind, monitor, free, table, draining-table
 use Rattle.model.specs.Entry.{entry}
 use Rattle.model.specs.Translate.{entry-at, translate}
 use Rattle.model.specs.Operations.{Out, refuse, done}
-use Rattle.model.specs.Cache.{Caches, Translation, kept, grown, forget}
+use Rattle.model.specs.Cache.{Translation, kept, grown}
 use Rattle.model.specs.Machine.{Machine, Operation, Create, Give, Take, Map, Unmap, Share, Unshare, Destroy, Invalidated, answer, Chooses, keeps, settle, call, stored, write, Step, calls, Run, stop, then}
 use Rattle.model.specs.Theorems.Terms.{expected}
 use Rattle.two_runs.specs.Theorems.TwoRunsTerms.{reads, shown, Same-bytes, answered, Stores}
@@ -23,11 +23,11 @@ use Rattle.model.specs.Invariant.Answer.{then-is, Sound}
 use Rattle.model.specs.Invariant.Holds.{Holds}
 use Rattle.model.specs.Invariant.Effects.{rows, same-translate}
 use Rattle.model.specs.Invariant.Bytes.{bytes-stay}
-use Rattle.model.specs.Invariant.Unreached.{keeps-less}
+use Rattle.model.specs.Invariant.Reaching.{reported, kept-before, kept-after}
 use Rattle.model.specs.Invariant.Linked.{Linked, answer-linked}
 use Rattle.two_runs.specs.Invariant.Alike.{step-closed, page-echo, stores-page, stores-step, written}
 use Rattle.two_runs.specs.Invariant.Apart.{role, role-of, role-after, dirty-after, Turns, answer-turns}
-use Rattle.two_runs.specs.Invariant.ApartKept.{reported, Recalls, Sane, sane-holds, sane-linked, keeps-more, now-kept, same-first, sound, stale-kept, found-is}
+use Rattle.two_runs.specs.Invariant.ApartKept.{Recalls, Sane, sane-holds, sane-linked, now-kept, same-first, sound, stale-kept, found-is}
 
 pub run-on : {m z z′ : Machine} → Run m z → Step z z′ → Run m z′
 run-on stop x = then x stop
@@ -111,18 +111,6 @@ pub record Called (g : ℕ) (m : Machine) (o : Operation) (m′ : Machine) : Typ
   pub still-kept : (v f r : ℕ) → reported g o ≡ false → m .caches .page-kept g v (m .state .first + f) r → m′ .caches .page-kept g v (m′ .state .first + f) r
   pub bytes : Bytes-stay g m m′
 
-not-reported : (k : Caches) (o : Operation) (g v x r : ℕ) → keeps k o .page-kept g v x r → reported g o ≡ false
-unfolding keeps forget
-not-reported k (Create h pick) g v x r a = refl
-not-reported k (Give f h) g v x r a = refl
-not-reported k (Take f h) g v x r a = refl
-not-reported k (Map f h b q pick) g v x r a = refl
-not-reported k (Unmap h b) g v x r a = refl
-not-reported k (Share o f h w) g v x r a = refl
-not-reported k (Unshare o f h) g v x r a = refl
-not-reported k (Destroy h) g v x r a = refl
-not-reported k (Invalidated h) g v x r a = ne-eqb h g (λ (e : h ≡ g). a .0 (sym e))
-
 role-sort : (g : ℕ) (x : Kind) (how : ℕ) → (role g x how ≡ 0 → ⊥) → (eqb 1 (sort x) ≡ false) × (eqb 2 (sort x) ≡ false)
 role-sort g monitor how n = absurd (n refl)
 role-sort g free how n = absurd (n refl)
@@ -137,10 +125,10 @@ called g {m} x o ch s′ e = record {
   turns = then-is (answer (m .state) o) s′ (answer-turns g (m .state) c o ch) e;
   now = λ v l. then-is (answer (m .state) o) s′ (rows (m .state) c o ch) e g v l;
   was-kept = λ v f r a. elim (found-is s′ (keeps (m .caches) o) (z .core) (z .kept) linked g (λ t v f r. stale-kept x o ch s′ e t g v f r) a f refl) [
-    | inl b ↦ inl (not-reported (m .caches) o g v (s′ .first + f) r b, rw first= at (keeps-less (m .caches) o g v (s′ .first + f) r b))
+    | inl b ↦ let y = kept-before (m .caches) o g v (s′ .first + f) r b in inl (y .0, rw first= at (y .1))
     | inr b ↦ inr b
   ];
-  still-kept = λ v f r n a. rw first= (kept (keeps-more (m .caches) o g v (m .state .first + f) r n a));
+  still-kept = λ v f r n a. rw first= (kept (kept-after (m .caches) o g v (m .state .first + f) r n a));
   bytes = λ f n. let q = role-sort g (m .state .kind f) (m .state .shared f g) n in λ i l. bytes-stay (m .state) c o ch s′ e f (m .state .kind f) refl (q .0) (q .1) i;
 }
   where

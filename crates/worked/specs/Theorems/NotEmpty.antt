@@ -1,6 +1,6 @@
 -- Nothing is vacuous: there is a run from set-up (document 03, section 5) in which a frame is shared and reached by two guests, is taken and drains while a cache still leads
 -- to it, and is given to another guest; and one in which a page is shared for writing, and a destroyed guest's tables drain and are used again.
--- Frame 8 of 16 lies at 0x40008000. The runs' answers are in Worked.Runs and Worked.Writing, computed by the checker.
+-- Frame 8 of 16 lies at 0x40008000. The runs' answers are in Runs and Writing, computed by the checker.
 use mathlib.Core.Path.{_≡_}
 use mathlib.Core.Option.{none}
 use Rattle.model.specs.State.{table, draining-table, page, draining-page}

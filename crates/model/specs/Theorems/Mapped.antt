@@ -4,12 +4,12 @@ use mathlib.Core.Path.{_≡_}
 use mathlib.Core.Bool.{true}
 use mathlib.Core.Option.{some}
 use Prim.Native.Nat.{ℕ, _+_, _*_, _<_}
 use Rattle.model.specs.State.{pages}
 use Rattle.model.specs.Translate.{translate}
 use Rattle.model.specs.Cache.{Access, grants}
 use Rattle.model.specs.Machine.{Machine, SetUp, Run, Reaches}
 use Rattle.model.specs.Invariant.Holds.{holds}
-use Rattle.worked.specs.Reaching.{reaches-mapped}
+use Rattle.model.specs.Invariant.Reaching.{reaches-mapped}
 
 pub reaches : {m z : Machine} → SetUp m → Run m z → (g v f r : ℕ) (w : Access) (o : ℕ) → v < pages → translate (z .state) g v ≡ some (f, r) → grants r w ≡ true → o < 4096 →
     Reaches z g w ((z .state .first + f) * 4096 + o)
