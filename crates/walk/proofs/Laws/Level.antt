@@ -1,6 +1,6 @@
 -- One level of a walk of stage 2, for crates above: what follows from the descriptor d that stands in RAM for this address.
 -- The walk stands at a table of level 3 - left, as rest-2 of Steps; stage 2 begins with 3 left.
-use Prim.Native.Nat.{ℕ, zero, suc, _+_, _*_, _-_, _^_, _/_, _%_, _≤_, _<_}
+use Prim.Native.Nat.{ℕ, suc, _+_, _*_, _-_, _^_, _/_, _%_, _≤_, _<_}
 use mathlib.Core.Path.{_≡_, refl, ap, _∙_}
 use mathlib.Core.Bool.{Bool, true, false, cond}
 use mathlib.Core.List.{List, [], _∷_}
@@ -13,10 +13,10 @@ use Rattle.memory.specs.Word.{wordAt}
 use Rattle.descriptor.specs.declared.Kind.the-variants.{WalkAbort, Translation, Permission}
 use Rattle.walk.specs.Memory.{read-at}
 use Rattle.descriptor.specs.Descriptor.{span, slot, bit, address, allows-2}
-use Rattle.step.specs.Stage.{valid, leaf, meaning, walk-from}
+use Rattle.step.specs.Stage.{valid, leaf, meaning}
 use Rattle.walk.specs.Both.{ends, having-fetched, fetched-at, reached, failed, rules-2, fetch-2, stage-2}
 use Rattle.walk.specs.Steps.{rest-2}
-use Rattle.walk.proofs.Laws.Turn.{turn-last}
+use Rattle.walk.proofs.Laws.Turn.{turn-left}
 
 -- the descriptor o bytes into RAM
 pub read-in : (m : List ℕ) (b o : ℕ) → o + 8 ≤ length m → read-at m b (b + o) ≡ some (wordAt m o)
@@ -29,6 +29,7 @@ pub slot-at : (level ipa table : ℕ) → slot level ipa table ≡ table + 8 * (
 unfolding slot
 slot-at level ipa table = refl
 
+-- the rights of stage 2, for any kind of access
 pub rights-at : (access d : ℕ) → allows-2 access d ≡ cond (eqb access 0) (eqb (bit 6 d) 1) (cond (eqb access 1) (eqb (bit 7 d) 1) (eqb (bit 54 d) 0))
 unfolding allows-2
 rights-at access d = refl
@@ -41,15 +42,11 @@ module _ (m : List ℕ) (b access ipa : ℕ) where
   met : (left table d : ℕ) → read-at m b (slot (3 - left) ipa table) ≡ some d
       → rest-2 m b access ipa left table
       ≡ having-fetched (slot (3 - left) ipa table ∷ []) (meaning (rules-2 access) ipa (3 - left) d (rest-2 m b access ipa (left - 1)))
-  unfolding walk-from fetch-2
-  met zero table d here =
-      turn-last (rules-2 access) ipa (fetch-2 m b) table (rest-2 m b access ipa 0)
-      ∙ ap (λ (o : Option ℕ). fetched-at (slot 3 ipa table) o (ends (failed WalkAbort 3)) (λ d. meaning (rules-2 access) ipa 3 d (rest-2 m b access ipa 0))) here
-  met (suc left) table d here =
-      let same : left ≡ suc left - 1 = omega arith in
-      ap (λ (o : Option ℕ). fetched-at (slot (3 - suc left) ipa table) o (ends (failed WalkAbort (3 - suc left)))
-      (λ d. meaning (rules-2 access) ipa (3 - suc left) d (rest-2 m b access ipa left))) here
-      ∙ ap (λ (k : ℕ). having-fetched (slot (3 - suc left) ipa table ∷ []) (meaning (rules-2 access) ipa (3 - suc left) d (rest-2 m b access ipa k))) same
+  unfolding fetch-2
+  met left table d here =
+      turn-left (rules-2 access) ipa (fetch-2 m b) left table
+      ∙ ap (λ (o : Option ℕ). fetched-at (slot (3 - left) ipa table) o (ends (failed WalkAbort (3 - left)))
+      (λ d. meaning (rules-2 access) ipa (3 - left) d (rest-2 m b access ipa (left - 1)))) here
 
   -- "0 or 2 | any | invalid": here the descriptor 0
   pub level-empty : (left table : ℕ) → read-at m b (slot (3 - left) ipa table) ≡ some 0

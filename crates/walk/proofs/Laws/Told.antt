@@ -26,7 +26,7 @@ module _ {R A : Type 0} (say : R → ℕ → A) where
   tells-whole w = ap (say (w .result)) (omega arith)
 
 -- What the end of stage 2 says of the whole walk that went through it.
-module _ (n : ℕ) (fails : Kind → ℕ → Both) (next : ℕ → Walked Both) where
+module _ (fails : Kind → ℕ → Both) (next : ℕ → Walked Both) where
   abbrev pub goes-on : Ended → Answer
   goes-on (Reached a k) = told k (next a)
   goes-on (Failed kind level k) = tell (fails kind level) k
@@ -35,6 +35,6 @@ module _ (n : ℕ) (fails : Kind → ℕ → Both) (next : ℕ → Walked Both) 
   by-end (reached a) k = refl
   by-end (failed kind level) k = tells-now tell k (fails kind level)
 
-  pub told-through : (w : Walked One) → told n (through w fails next) ≡ goes-on (ended n w)
+  pub told-through : (n : ℕ) (w : Walked One) → told n (through w fails next) ≡ goes-on (ended n w)
   unfolding tells
-  told-through w = tells-more tell n (w .fetched) (by-result (w .result) fails next) ∙ by-end (w .result) (n + length (w .fetched))
+  told-through n w = tells-more tell n (w .fetched) (by-result (w .result) fails next) ∙ by-end (w .result) (n + length (w .fetched))

@@ -29,7 +29,7 @@ module _ {A : Type 0} (s : Stage A) (ia : ℕ) (fetch : ℕ → ℕ → (ℕ →
   unfolding walk-from
   turn-last table below = ap (fetch 3 (slot 3 ia table)) (λ i d. page-meaning d below i)
 
-  turn-left : (left table : ℕ)
+  pub turn-left : (left table : ℕ)
       → walk-from s ia fetch left table
       ≡ fetch (3 - left) (slot (3 - left) ia table) (λ d. meaning s ia (3 - left) d (walk-from s ia fetch (left - 1)))
   unfolding walk-from

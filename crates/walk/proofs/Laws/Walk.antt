@@ -130,7 +130,7 @@ module _ (m : List ℕ) (b root2 access el va level : ℕ) where
     pub record Arrived (way : Ended) : Type 0 where
       pub low : LowEnd n way
       pub so : told n (rest-1 m b root2 access el va (3 - level) table)
-          ≡ goes-on n (λ kind level2. during kind level2 level) (here-1 m b root2 access el va level) way
+          ≡ goes-on (λ kind level2. during kind level2 level) (here-1 m b root2 access el va level) way
 
     pub arrives : level ≤ 3 → {ipa : ℕ} → ipa ≡ slot level va table → {way : Ended} → way ≡ ended n (stage-2 m b root2 0 ipa) → Arrived way
     unfolding fetch-1 here-1
@@ -141,7 +141,7 @@ module _ (m : List ℕ) (b root2 access el va level : ℕ) where
           low = ended-low n w (stage-2-short m b 0 (slot level va table) root2);
           so =
               ap (told n) (turn (rules-1 m b root2 access el) va (fetch-1 m b root2) level table le)
-              ∙ told-through n (λ kind level2. during kind level2 level) (here-1 m b root2 access el va level) w;
+              ∙ told-through (λ kind level2. during kind level2 level) (here-1 m b root2 access el va level) n w;
         })
 
 module _ {m : List ℕ} {b root2 access el va level table n : ℕ} {way : Ended} (arrived : Arrived m b root2 access el va level table n way) where
