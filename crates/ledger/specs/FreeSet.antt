@@ -18,100 +18,66 @@ pub record FreeSet (n : ℕ) (K D P : ℕ → ℕ) (count : ℕ) : Type 0 where
   pub d-p : (f : ℕ) → f < n → D (P f) ≡ f
   pub in-set : (f : ℕ) → f < n → eqb (K f) 1 ≡ ltb (P f) count
 
--- frame f and the one at place q change places
-module _ (n : ℕ) (K D P : ℕ → ℕ) (count f q : ℕ) (s : FreeSet n K D P count) (hf : f < n) (low-q : q < n) where
-  abbrev pub D′ : ℕ → ℕ
-  D′ = upd (upd D (P f) (D q)) q f
+-- D when frame f and the one at place q have changed places; P then is the same with the two exchanged
+abbrev pub swapped : (D P : ℕ → ℕ) (f q : ℕ) → ℕ → ℕ
+swapped D P f q = upd (upd D (P f) (D q)) q f
 
-  abbrev pub P′ : ℕ → ℕ
-  P′ = upd (upd P (D q) (P f)) f q
+module _ (D P : ℕ → ℕ) (f q : ℕ) where
+  here : swapped D P f q q ≡ f
+  here = upd-at (upd D (P f) (D q)) q f q refl
 
-  d-last : P (D q) ≡ q
-  d-last = s .p-d q low-q
+  there : (P f ≡ q → ⊥) → swapped D P f q (P f) ≡ D q
+  there ne = upd-other (upd D (P f) (D q)) q f (P f) ne ∙ upd-at D (P f) (D q) (P f) refl
 
-  same-place : D q ≡ f → P f ≡ q
-  same-place a = ap P (sym a) ∙ d-last
+  elsewhere : (i : ℕ) → (i ≡ q → ⊥) → (i ≡ P f → ⊥) → swapped D P f q i ≡ D i
+  elsewhere i a b = upd-other (upd D (P f) (D q)) q f i a ∙ upd-other D (P f) (D q) i b
 
-  same-frame : P f ≡ q → D q ≡ f
-  same-frame a = ap D (sym a) ∙ s .d-p f hf
-
-  D-q : D′ q ≡ f
-  D-q = upd-at (upd D (P f) (D q)) q f q refl
-
-  D-p : (P f ≡ q → ⊥) → D′ (P f) ≡ D q
-  D-p ne = upd-other (upd D (P f) (D q)) q f (P f) ne ∙ upd-at D (P f) (D q) (P f) refl
-
-  D-i : (i : ℕ) → (i ≡ q → ⊥) → (i ≡ P f → ⊥) → D′ i ≡ D i
-  D-i i a b = upd-other (upd D (P f) (D q)) q f i a ∙ upd-other D (P f) (D q) i b
-
-  P-f : P′ f ≡ q
-  P-f = upd-at (upd P (D q) (P f)) f q f refl
-
-  P-e : (D q ≡ f → ⊥) → P′ (D q) ≡ P f
-  P-e ne = upd-other (upd P (D q) (P f)) f q (D q) ne ∙ upd-at P (D q) (P f) (D q) refl
-
-  P-x : (x : ℕ) → (x ≡ f → ⊥) → (x ≡ D q → ⊥) → P′ x ≡ P x
-  P-x x a b = upd-other (upd P (D q) (P f)) f q x a ∙ upd-other P (D q) (P f) x b
-
-  pd : (i : ℕ) → i < n → P′ (D′ i) ≡ i
-  pd i l = elim (eq? i q) [
-    | inl a ↦ ap (λ (x : ℕ). P′ (D′ x)) a ∙ ap P′ D-q ∙ P-f ∙ sym a
-    | inr a ↦ elim (eq? i (P f)) [
-      | inl b ↦ ap (λ (x : ℕ). P′ (D′ x)) b ∙ ap P′ (D-p (λ x. a (b ∙ x))) ∙ P-e (λ x. a (b ∙ same-place x)) ∙ sym b
-      | inr b ↦ ap P′ (D-i i a b) ∙ P-x (D i) (λ x. b (sym (s .p-d i l) ∙ ap P x)) (λ x. a (sym (s .p-d i l) ∙ ap P x ∙ d-last)) ∙ s .p-d i l
-    ]
-  ]
-
-  dp : (x : ℕ) → x < n → D′ (P′ x) ≡ x
-  dp x l = elim (eq? x f) [
-    | inl a ↦ ap (λ (y : ℕ). D′ (P′ y)) a ∙ ap D′ P-f ∙ D-q ∙ sym a
-    | inr a ↦ elim (eq? x (D q)) [
-      | inl b ↦ ap (λ (y : ℕ). D′ (P′ y)) b ∙ ap D′ (P-e (λ y. a (b ∙ y))) ∙ D-p (λ y. a (b ∙ same-frame y)) ∙ sym b
-      | inr b ↦ ap D′ (P-x x a b) ∙ D-i (P x) (λ y. b (sym (s .d-p x l) ∙ ap D y)) (λ y. a (sym (s .d-p x l) ∙ ap D y ∙ s .d-p f hf)) ∙ s .d-p x l
-    ]
-  ]
-
-  d-low′ : (i : ℕ) → i < n → D′ i < n
-  d-low′ = λ i l. elim (eq? i q) [
+  still-low : (n : ℕ) → ((i : ℕ) → i < n → D i < n) → f < n → q < n → (i : ℕ) → i < n → swapped D P f q i < n
+  still-low n low hf hq i l = elim (eq? i q) [
     | inl a ↦ rw (upd-at (upd D (P f) (D q)) q f i a) hf
     | inr a ↦ rw (upd-other (upd D (P f) (D q)) q f i a) (elim (eq? i (P f)) [
-      | inl b ↦ rw (upd-at D (P f) (D q) i b) (s .d-low q low-q)
-      | inr b ↦ rw (upd-other D (P f) (D q) i b) (s .d-low i l)
+      | inl b ↦ rw (upd-at D (P f) (D q) i b) (low q hq)
+      | inr b ↦ rw (upd-other D (P f) (D q) i b) (low i l)
     ])
   ]
 
-  p-low′ : (x : ℕ) → x < n → P′ x < n
-  p-low′ = λ x l. elim (eq? x f) [
-    | inl a ↦ rw (upd-at (upd P (D q) (P f)) f q x a) low-q
-    | inr a ↦ rw (upd-other (upd P (D q) (P f)) f q x a) (elim (eq? x (D q)) [
-      | inl b ↦ rw (upd-at P (D q) (P f) x b) (s .p-low f hf)
-      | inr b ↦ rw (upd-other P (D q) (P f) x b) (s .p-low x l)
-    ])
+-- they are still each other's inverse
+still-inverse : (n : ℕ) (D P : ℕ → ℕ) (f q : ℕ) → ((i : ℕ) → i < n → P (D i) ≡ i) → q < n → (i : ℕ) → i < n → swapped P D q f (swapped D P f q i) ≡ i
+still-inverse n D P f q p-d hq i l = elim (eq? i q) [
+  | inl a ↦ ap back a ∙ ap (swapped P D q f) (here D P f q) ∙ here P D q f ∙ sym a
+  | inr a ↦ elim (eq? i (P f)) [
+    | inl b ↦ ap back b ∙ ap (swapped P D q f) (there D P f q (λ x. a (b ∙ x))) ∙ there P D q f (λ x. a (b ∙ ap P (sym x) ∙ p-d q hq)) ∙ sym b
+    | inr b ↦ ap (swapped P D q f) (elsewhere D P f q i a b) ∙ elsewhere P D q f (D i) (λ x. b (sym (p-d i l) ∙ ap P x)) (λ x. a (sym (p-d i l) ∙ ap P x ∙ p-d q hq)) ∙ p-d i l
   ]
+]
+  where
+    back : ℕ → ℕ
+    back x = swapped P D q f (swapped D P f q x)
 
+module _ (n : ℕ) (K D P : ℕ → ℕ) (count f q : ℕ) (s : FreeSet n K D P count) (hf : f < n) (low-q : q < n) where
   -- the set after it, whose bound has moved past place q and no other
   pub exchanged : (v count′ : ℕ) → count′ ≤ n → eqb v 1 ≡ ltb q count′ →
       ((x : ℕ) → x < n → (x ≡ q → ⊥) → ltb x count′ ≡ ltb x count) → ltb (P f) count′ ≡ ltb q count ⊎ (P f ≡ q) →
-      FreeSet n (upd K f v) D′ P′ count′
-  exchanged v count′ few here there other = record {
+      FreeSet n (upd K f v) (swapped D P f q) (swapped P D q f) count′
+  exchanged v count′ few inside outside other = record {
     few = few;
-    d-low = d-low′;
-    p-low = p-low′;
-    p-d = pd;
-    d-p = dp;
+    d-low = still-low D P f q n (s .d-low) hf low-q;
+    p-low = still-low P D q f n (s .p-low) low-q hf;
+    p-d = still-inverse n D P f q (s .p-d) low-q;
+    d-p = still-inverse n P D q f (s .d-p) hf;
     in-set = member;
   }
     where
-      swapped : (x : ℕ) → x ≡ D q → (x ≡ f → ⊥) → (ltb (P f) count′ ≡ ltb q count) ⊎ (P f ≡ q) → ltb (P f) count′ ≡ ltb q count
-      swapped x b a (inl h) = h
-      swapped x b a (inr h) = absurd (a (b ∙ same-frame h))
+      changed : (x : ℕ) → x ≡ D q → (x ≡ f → ⊥) → (ltb (P f) count′ ≡ ltb q count) ⊎ (P f ≡ q) → ltb (P f) count′ ≡ ltb q count
+      changed x b a (inl h) = h
+      changed x b a (inr h) = absurd (a (b ∙ ap D (sym h) ∙ s .d-p f hf))
 
-      member : (x : ℕ) → x < n → eqb (upd K f v x) 1 ≡ ltb (P′ x) count′
+      member : (x : ℕ) → x < n → eqb (upd K f v x) 1 ≡ ltb (swapped P D q f x) count′
       member x l = elim (eq? x f) [
-        | inl a ↦ rw (upd-at K f v x a, a, P-f) here
+        | inl a ↦ rw (upd-at K f v x a, a, here P D q f) inside
         | inr a ↦ rw (upd-other K f v x a) (elim (eq? x (D q)) [
-          | inl b ↦ s .in-set x l ∙ ap (λ (y : ℕ). ltb y count) (ap P b ∙ d-last) ∙ sym (swapped x b a other) ∙ ap (λ (y : ℕ). ltb y count′) (sym (ap P′ b ∙ P-e (λ y. a (b ∙ y))))
-          | inr b ↦ s .in-set x l ∙ sym (there (P x) (s .p-low x l) (λ y. b (sym (s .d-p x l) ∙ ap D y))) ∙ ap (λ (y : ℕ). ltb y count′) (sym (P-x x a b))
+          | inl b ↦ s .in-set x l ∙ ap (λ (y : ℕ). ltb y count) (ap P b ∙ s .p-d q low-q) ∙ sym (changed x b a other) ∙ ap (λ (y : ℕ). ltb y count′) (sym (ap (swapped P D q f) b ∙ there P D q f (λ y. a (b ∙ y))))
+          | inr b ↦ s .in-set x l ∙ sym (outside (P x) (s .p-low x l) (λ y. b (sym (s .d-p x l) ∙ ap D y))) ∙ ap (λ (y : ℕ). ltb y count′) (sym (elsewhere P D q f x a b))
         ])
       ]
 
@@ -123,7 +89,7 @@ module _ (n : ℕ) (K D P : ℕ → ℕ) (count f v : ℕ) (s : FreeSet n K D P 
   pub last-low : count - 1 < n
   last-low = let a = s .few in let b = inside in omega arith
 
-  pub left-set : (v ≡ 1 → ⊥) → FreeSet n (upd K f v) (upd (upd D (P f) (D (count - 1))) (count - 1) f) (upd (upd P (D (count - 1)) (P f)) f (count - 1)) (count - 1)
+  pub left-set : (v ≡ 1 → ⊥) → FreeSet n (upd K f v) (swapped D P f (count - 1)) (swapped P D (count - 1) f) (count - 1)
   left-set now =
       let i = inside in
       let few = s .few in
@@ -159,7 +125,7 @@ module _ (n : ℕ) (K D P : ℕ → ℕ) (count f : ℕ) (s : FreeSet n K D P co
   pub room-left : count < n
   room-left = let a = s .p-low f hf in let b = outside in omega arith
 
-  pub joined-set : FreeSet n (upd K f 1) (upd (upd D (P f) (D count)) count f) (upd (upd P (D count) (P f)) f count) (count + 1)
+  pub joined-set : FreeSet n (upd K f 1) (swapped D P f count) (swapped P D count f) (count + 1)
   joined-set =
       let r = room-left in
       let more : count + 1 ≤ n = omega arith in

@@ -8,5 +8,6 @@ pub mod Kinds
 pub mod Words
 pub mod Stores
 pub mod Sound
+pub mod Moves
 pub mod Start
 pub mod Beside

@@ -58,6 +58,10 @@ changed l l′ F G h s e = record {
   state = λ ram. rw (h .frames-are, h .guests-are) (e (word-of ram));
 }
 
+-- the same change in other words
+pub changed-as : {φ ψ : State → State} {l l′ : List ℕ} → Changed φ l l′ → ((ram : List ℕ) → φ (state-of ram l) ≡ ψ (state-of ram l)) → Changed ψ l l′
+changed-as c e = record { stock = c .stock; state = λ ram. c .state ram ∙ e ram }
+
 -- one after the other
 pub changed-then : {φ ψ : State → State} {l l₁ l₂ : List ℕ} → Changed φ l l₁ → Changed ψ l₁ l₂ → Changed (λ s. ψ (φ s)) l l₂
 changed-then {φ} {ψ} a b = record { stock = b .stock; state = λ ram. b .state ram ∙ ap ψ (a .state ram) }

@@ -4,8 +4,9 @@ ghost use Prim.Native.Nat.{_+_, _*_, _-_, _<_, _≤_, _^_};
 ghost use lib.ListN.{length};
 ghost use Rattle.memory.specs.Word.{clearedAt};
 ghost use Rattle.ledger.specs.Layout.{words-for, most-frames};
-ghost use Rattle.ledger.specs.Start.{kind-first, Filled, LaidOut};
+ghost use Rattle.ledger.specs.Start.{kind-first, Filled, ram-stored, LaidOut};
 use super::cells;
+use super::free_set;
 
 fn clear(ledger: &mut [u32])
     ensures { λ _. ⌜ now (ledger .exit) ≡ clearedAt (now (ledger .entry)) 0 (length (now (ledger .entry))) ⌝ }
@@ -33,8 +34,7 @@ fn fill_row(ledger: &mut [u32], n: u64, k: u64, f: u64)
 {
     let v = first_kind(f, k);
     cells::store_of_frame(ledger, 0, f, v);
-    cells::store_of_frame(ledger, 12, f, n - 1 - f);
-    cells::store_of_frame(ledger, 13, f, n - 1 - f);
+    free_set::place(ledger, f, n - 1 - f);
 }
 
 fn fill(ledger: &mut [u32], n: u64, k: u64)
@@ -49,15 +49,21 @@ fn fill(ledger: &mut [u32], n: u64, k: u64)
     }
 }
 
+// n, and b / 4096 in two parts.
+fn store_ram(ledger: &mut [u32], n: u64, first: u64)
+    requires { ⌜ (144 ≤ length (now ledger)) × (n ≤ most-frames) ⌝ }
+    ensures { λ _. ⌜ now (ledger .exit) ≡ ram-stored (now (ledger .entry)) n first ⌝ }
+{
+    cells::store_of_guest(ledger, 4, 0, n);
+    cells::store_of_guest(ledger, 5, 0, first % 0x100000000);
+    cells::store_of_guest(ledger, 6, 0, first / 0x100000000);
+}
+
 pub fn lay_out(ledger: &mut [u32], n: u64, b: u64, k: u64)
     requires { ⌜ (length (now ledger) ≡ words-for n) × (n ≤ most-frames) × (k < n) ⌝ }
     ensures { λ _. ⌜ LaidOut n b k (now (ledger .exit)) ⌝ }
 {
     fill(ledger, n, k);
-    let first = b / 4096;
+    store_ram(ledger, n, b / 4096);
     cells::store_of_guest(ledger, 3, 0, n - k);
-    cells::store_of_guest(ledger, 4, 0, n);
-    cells::store_of_guest(ledger, 5, 0, first % 0x100000000);
-    cells::store_of_guest(ledger, 6, 0, first / 0x100000000);
-    cells::store_of_guest(ledger, 7, 0, k);
 }

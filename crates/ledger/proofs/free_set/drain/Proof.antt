@@ -2,70 +2,48 @@
 -- A table becomes a draining one, and a page too.
 use mathlib.Core.Logic.{inl, inr}
 use mathlib.Core.Path.{refl}
-use Rattle.ledger.specs.Stores.{drain-other, drain-one}
+use Rattle.ledger.specs.Moves.{drain-none, drain-one}
 use borrow.Author.Needs.{needs}
 use Rattle.ledger.proofs.free_set.drain.Statement.{statement}
 use Rattle.ledger.proofs.free_set.drain.Tie as tie
 
-of-frame-requires : tie.Need-of-frame-requires
-of-frame-requires c κs = search needs
+kind-for-requires : tie.Need-kind-for-requires
+kind-for-requires c κs = search needs
 
-of-frame-requires-2 : tie.Need-of-frame-requires-2
-of-frame-requires-2 c κs = search needs
+store-of-frame-requires : tie.Need-store-of-frame-requires
+store-of-frame-requires c κs = search needs
 
 same-length : tie.Need-same-length
 same-length c = search needs
 
 returns : tie.Need-returns
-returns c = drain-other (c .before .before .before .before .before .before .args .ledger .now) (c .before .before .before .before .before .before .pre .0) (c .before .before .before .before .before .before .args .f) (c .before .before .before .before .before .before .pre .1) (c .before .before .before .before .before .before .args .g) (c .before .before .before .of-frame .result) (c .before .of-frame2 .result) (c .before .before .before .of-frame .ensures .0) (c .before .of-frame2 .ensures .0) (inl (c .if1 .taken))
+returns c = drain-one (c .before .before .before .before .before .before .before .before .args .ledger .now) (c .before .before .before .before .before .before .before .before .pre .0) (c .before .before .before .before .before .before .before .before .args .f) (c .before .before .before .before .before .before .before .before .pre .1) (c .before .before .before .before .before .before .before .before .args .g) (c .before .before .before .before .before .kind-for .result) (c .before .before .before .before .before .kind-for .ensures) 2 _ (inl refl) (c .before .before .before .before .if1 .taken) (c .before .before .store-of-frame .ensures)
 
-of-frame-requires-3 : tie.Need-of-frame-requires-3
-of-frame-requires-3 c κs = search needs
-
-of-frame-requires-4 : tie.Need-of-frame-requires-4
-of-frame-requires-4 c κs = search needs
-
-mark-requires : tie.Need-mark-requires
-mark-requires c κs = search needs
+store-of-frame-requires-2 : tie.Need-store-of-frame-requires-2
+store-of-frame-requires-2 c κs = search needs
 
 same-length-2 : tie.Need-same-length-2
 same-length-2 c = search needs
 
 returns-2 : tie.Need-returns-2
-returns-2 c = drain-one (c .before .before .before .before .before .before .before .before .before .before .before .before .before .before .before .args .ledger .now) (c .before .before .before .before .before .before .before .before .before .before .before .before .before .before .before .pre .0) (c .before .before .before .before .before .before .before .before .before .before .before .before .before .before .before .args .f) (c .before .before .before .before .before .before .before .before .before .before .before .before .before .before .before .pre .1) (c .before .before .before .before .before .before .before .before .before .before .before .before .before .before .before .args .g) (c .before .before .before .before .before .before .before .before .before .before .before .before .of-frame .result) (c .before .before .before .before .before .before .before .before .before .before .of-frame2 .result) (c .before .before .before .before .before .before .before .before .before .before .before .before .of-frame .ensures .0) (c .before .before .before .before .before .before .before .before .before .before .of-frame2 .ensures .0) (c .before .before .before .before .before .before .before .of-frame3 .result) (c .before .before .before .before .before .of-frame4 .result) 3 _ (c .before .before .before .before .before .before .before .before .before .if1 .left) (c .before .before .before .before .before .before .before .of-frame3 .ensures .0) (c .before .before .before .before .before .of-frame4 .ensures .0)
-    (inl (c .before .before .before .before .if2 .taken, refl)) (c .before .before .mark .ensures)
-
-mark-requires-2 : tie.Need-mark-requires-2
-mark-requires-2 c κs = search needs
+returns-2 c = drain-one (c .before .before .before .before .before .before .before .before .before .args .ledger .now) (c .before .before .before .before .before .before .before .before .before .pre .0) (c .before .before .before .before .before .before .before .before .before .args .f) (c .before .before .before .before .before .before .before .before .before .pre .1) (c .before .before .before .before .before .before .before .before .before .args .g) (c .before .before .before .before .before .before .kind-for .result) (c .before .before .before .before .before .before .kind-for .ensures) 4 _ (inr refl) (c .before .before .before .before .if2 .taken) (c .before .before .store-of-frame2 .ensures)
 
 same-length-3 : tie.Need-same-length-3
 same-length-3 c = search needs
 
 returns-3 : tie.Need-returns-3
-returns-3 c = drain-one (c .before .before .before .before .before .before .before .before .before .before .before .before .before .before .before .before .args .ledger .now) (c .before .before .before .before .before .before .before .before .before .before .before .before .before .before .before .before .pre .0) (c .before .before .before .before .before .before .before .before .before .before .before .before .before .before .before .before .args .f) (c .before .before .before .before .before .before .before .before .before .before .before .before .before .before .before .before .pre .1) (c .before .before .before .before .before .before .before .before .before .before .before .before .before .before .before .before .args .g) (c .before .before .before .before .before .before .before .before .before .before .before .before .before .of-frame .result) (c .before .before .before .before .before .before .before .before .before .before .before .of-frame2 .result) (c .before .before .before .before .before .before .before .before .before .before .before .before .before .of-frame .ensures .0) (c .before .before .before .before .before .before .before .before .before .before .before .of-frame2 .ensures .0) (c .before .before .before .before .before .before .before .before .of-frame3 .result) (c .before .before .before .before .before .before .of-frame4 .result) 5 _ (c .before .before .before .before .before .before .before .before .before .before .if1 .left) (c .before .before .before .before .before .before .before .before .of-frame3 .ensures .0) (c .before .before .before .before .before .before .of-frame4 .ensures .0)
-    (inr (c .before .before .before .before .if3 .taken, refl)) (c .before .before .mark2 .ensures)
-
-same-length-4 : tie.Need-same-length-4
-same-length-4 c = search needs
-
-returns-4 : tie.Need-returns-4
-returns-4 c = drain-other (c .before .before .before .before .before .before .before .before .before .before .before .before .args .ledger .now) (c .before .before .before .before .before .before .before .before .before .before .before .before .pre .0) (c .before .before .before .before .before .before .before .before .before .before .before .before .args .f) (c .before .before .before .before .before .before .before .before .before .before .before .before .pre .1) (c .before .before .before .before .before .before .before .before .before .before .before .before .args .g) (c .before .before .before .before .before .before .before .before .before .of-frame .result) (c .before .before .before .before .before .before .before .of-frame2 .result) (c .before .before .before .before .before .before .before .before .before .of-frame .ensures .0) (c .before .before .before .before .before .before .before .of-frame2 .ensures .0) (inr (c .before .if2 .left, c .if3 .left))
+returns-3 c = drain-none (c .before .before .before .before .before .args .ledger .now) (c .before .before .before .before .before .pre .0) (c .before .before .before .before .before .args .f) (c .before .before .before .before .before .pre .1) (c .before .before .before .before .before .args .g) (c .before .before .kind-for .result) (c .before .before .kind-for .ensures) (c .before .if1 .left) (c .if2 .left)
 
 pub drain-spec : {M : Type 1} → statement M
 drain-spec =
     tie.close
     (tie.spec
-    of-frame-requires
-    of-frame-requires-2
+    kind-for-requires
+    store-of-frame-requires
     same-length
     returns
-    of-frame-requires-3
-    of-frame-requires-4
-    mark-requires
+    store-of-frame-requires-2
     same-length-2
     returns-2
-    mark-requires-2
     same-length-3
-    returns-3
-    same-length-4
-    returns-4)
+    returns-3)

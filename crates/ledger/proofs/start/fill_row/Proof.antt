@@ -1,6 +1,6 @@
 -- Written by tools/prove from the file answers beside it: edit that, and not this.
--- Three cells of the row.
-use Rattle.ledger.specs.Start.{filled-more}
+-- Its kind, and its place.
+use Rattle.ledger.specs.Start.{row-fits, filled-more}
 use borrow.Author.Needs.{needs}
 use Rattle.ledger.proofs.start.fill_row.Statement.{statement}
 use Rattle.ledger.proofs.start.fill_row.Tie as tie
@@ -11,30 +11,21 @@ first-kind-requires c κs = search needs
 store-of-frame-requires : tie.Need-store-of-frame-requires
 store-of-frame-requires c κs = search needs
 
-sub-store-of-frame : tie.Need-sub-store-of-frame
-sub-store-of-frame c = search needs
+sub-place : tie.Need-sub-place
+sub-place c = search needs
 
-sub-store-of-frame-2 : tie.Need-sub-store-of-frame-2
-sub-store-of-frame-2 c = search needs
+sub-place-2 : tie.Need-sub-place-2
+sub-place-2 c = search needs
 
-store-of-frame-requires-2 : tie.Need-store-of-frame-requires-2
-store-of-frame-requires-2 c κs = search needs
-
-sub-store-of-frame-3 : tie.Need-sub-store-of-frame-3
-sub-store-of-frame-3 c = search needs
-
-sub-store-of-frame-4 : tie.Need-sub-store-of-frame-4
-sub-store-of-frame-4 c = search needs
-
-store-of-frame-requires-3 : tie.Need-store-of-frame-requires-3
-store-of-frame-requires-3 c κs = search needs
+place-requires : tie.Need-place-requires
+place-requires c κs = search needs
 
 same-length : tie.Need-same-length
 same-length c = search needs
 
 returns : tie.Need-returns
-returns c = filled-more (c .before .before .before .before .before .before .before .before .before .before .before .before .before .before .args .n) (c .before .before .before .before .before .before .before .before .before .before .before .before .before .before .args .k) (c .before .before .before .before .before .before .before .before .before .before .before .before .before .before .args .f) (c .before .before .before .before .before .before .before .before .before .before .before .before .before .before .args .ledger .now) (c .before .before .before .before .before .before .before .before .before .before .before .before .before .before .pre .0) (c .before .before .before .before .before .before .before .before .before .before .before .before .before .before .pre .1 .0) (c .before .before .before .before .before .before .before .before .before .before .before .before .before .before .pre .1 .1) (c .before .before .before .before .before .before .before .before .before .before .before .before .first-kind .result) _ _ _ (c .before .before .before .before .before .before .before .before .before .before .before .before .first-kind .ensures .0)
-    (c .before .before .before .before .before .before .before .before .before .before .store-of-frame .ensures) (c .before .before .before .before .before .before .store-of-frame2 .ensures) (c .before .before .store-of-frame3 .ensures)
+returns c = filled-more (c .before .before .before .before .before .before .before .before .before .before .args .n) (c .before .before .before .before .before .before .before .before .before .before .args .k) (c .before .before .before .before .before .before .before .before .before .before .args .f) (c .before .before .before .before .before .before .before .before .before .before .args .ledger .now) (c .before .before .before .before .before .before .before .before .before .before .pre .0) (c .before .before .before .before .before .before .before .before .before .before .pre .1 .0) (c .before .before .before .before .before .before .before .before .before .before .pre .1 .1) (c .before .before .before .before .before .before .before .before .first-kind .result) _ _ (c .before .before .before .before .before .before .before .before .first-kind .ensures .0)
+    (c .before .before .before .before .before .before .store-of-frame .ensures) (c .before .before .place .ensures)
 
 pub fill-row-spec : {M : Type 1} → statement M
 fill-row-spec =
@@ -42,11 +33,8 @@ fill-row-spec =
     (tie.spec
     first-kind-requires
     store-of-frame-requires
-    sub-store-of-frame
-    sub-store-of-frame-2
-    store-of-frame-requires-2
-    sub-store-of-frame-3
-    sub-store-of-frame-4
-    store-of-frame-requires-3
+    sub-place
+    sub-place-2
+    place-requires
     same-length
     returns)
