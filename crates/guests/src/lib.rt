@@ -131,7 +131,7 @@ fn unshared(ram: &[u8], ledger: &[u32], g: u64, f: u64) -> bool
     if !frame::is_page_of(ledger, f, g) {
         return true;
     }
-    frame::unshared(ledger, f)
+    frame::uses(ledger, f).shares == 0
 }
 
 fn all_unshared(ram: &[u8], ledger: &[u32], g: u64) -> bool

@@ -12,7 +12,7 @@ use Rattle.model.specs.Operations.{Out, done, refusal, check, take}
 use Rattle.model.specs.Invariant.Kinds.{page-of-is}
 use Rattle.model.specs.Invariant.GiveTake.{take-good}
 use Rattle.ledger.specs.Layout.{size-of, exists-of, dirty-of, kind-of, shared-of, count-of, word-of, state-in, state-of}
-use Rattle.ledger.specs.Fields.{remade, with-kind, with-drained}
+use Rattle.ledger.specs.Fields.{remade, with-kind, with-kind-by}
 use Rattle.ledger.specs.Stock.{Changed}
 use Rattle.ledger.specs.Sound.{Sound, guest-there}
 use Rattle.operation.specs.Answers.{Operation, Done}
@@ -51,11 +51,11 @@ module _ (m l : List ℕ) (ok : Sound m l) (f g : ℕ) (h : refusal (take (state
       same : with-kind f k (state-of m l) ≡ after k
       same = unfold with-kind remade becomes state-in in refl
 
-  pub take-drains : (l′ : List ℕ) → dirty-of l g ≡ true → Changed (with-drained f g) l l′ → Done (taking f g) m l m l′
+  pub take-drains : (l′ : List ℕ) → dirty-of l g ≡ true → Changed (with-kind-by f (drained g)) l l′ → Done (taking f g) m l m l′
   take-drains l′ d c = take-end l′ (drained g (kind-of l f)) kinds same c
     where
-      same : with-drained f g (state-of m l) ≡ with-kind f (drained g (kind-of l f)) (state-of m l)
-      same = unfold with-drained state-in in refl
+      same : with-kind-by f (drained g) (state-of m l) ≡ with-kind f (drained g (kind-of l f)) (state-of m l)
+      same = unfold with-kind-by state-in in refl
 
       kinds : drained g (kind-of l f) ≡ then-kind
       kinds = rw (take-owned .its-page, d) (unfold drained in rw (eq-eqb g g refl))
