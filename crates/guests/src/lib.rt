@@ -15,7 +15,6 @@ ghost use Rattle.guests.specs.Upto.{upto, same, without};
 ghost use Rattle.guests.specs.Invalidated.{invalidating};
 ghost use Rattle.guests.specs.Destroy.{destroying};
 use ledger::frame;
-use ledger::free_set;
 use ledger::guest;
 use ledger::header;
 use ledger::words;

@@ -8,6 +8,4 @@ pub mod Kinds
 pub mod Words
 pub mod Stores
 pub mod Sound
-pub mod Moves
-pub mod Start
 pub mod Beside

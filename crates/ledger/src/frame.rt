@@ -58,7 +58,7 @@ pub fn is_page(ledger: &[u32], f: u64) -> bool
 }
 
 // What frame f is if it is stored for guest g, by its number; otherwise 0.
-pub(crate) fn kind_for(ledger: &[u32], f: u64, g: u64) -> u64
+pub fn kind_for(ledger: &[u32], f: u64, g: u64) -> u64
     requires { ⌜ Stock (now ledger) ⌝ }
     requires { ⌜ f < size-of (now ledger) ⌝ }
     ensures { λ r. ⌜ r ≡ kind-for (frames (now (ledger .entry))) f g ⌝ }

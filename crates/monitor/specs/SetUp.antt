@@ -12,7 +12,7 @@ use Rattle.model.specs.State.{State, pages}
 use Rattle.model.specs.Operations.{Out, done, refusal, check, set-up, started}
 use Rattle.model.specs.Invariant.Holds.{started-core}
 use Rattle.ledger.specs.Layout.{words-for, most-frames, size-of, word-of, state-in, state-of}
-use Rattle.ledger.specs.Start.{LaidOut}
+use Rattle.free_set.specs.Start.{LaidOut}
 use Rattle.ledger.specs.Sound.{Sound}
 use Rattle.operation.specs.Answers.{Outcome, refused-so, stops, goes-on, passed, and-left, and-right, and-both}
 

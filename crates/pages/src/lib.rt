@@ -7,7 +7,6 @@ ghost use Rattle.operation.specs.Answers.{Answers, Done};
 ghost use Rattle.pages.specs.Give.{giving};
 ghost use Rattle.pages.specs.Take.{taking};
 use ledger::frame;
-use ledger::free_set;
 use ledger::guest;
 use ledger::header;
 use ledger::words;

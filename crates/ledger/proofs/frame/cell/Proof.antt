@@ -11,8 +11,7 @@ add-of-frame : tie.Need-add-of-frame
 add-of-frame c = omega (arith, (guest-low (c .before .args .g) (c .before .pre .1 .1) .1))
 
 of-frame-requires : tie.Need-of-frame-requires
-of-frame-requires c κs = let row = row-low (c .before .args .ledger .now) (c .before .pre .0) (c .before .args .f) (c .before .pre .1 .0) in
-    (omega (arith, (guest-low (c .before .args .g) (c .before .pre .1 .1) .1)), row .0, row .1)
+of-frame-requires c κs = (omega (arith, (guest-low (c .before .args .g) (c .before .pre .1 .1) .1)), row-low (c .before .args .ledger .now) (c .before .pre .0) (c .before .args .f) (c .before .pre .1 .0))
 
 returns : tie.Need-returns
 returns c = let parts = cell-is (frames (c .before .before .args .ledger .now)) (guest-rows (c .before .before .args .ledger .now)) (frames (c .before .before .args .ledger .now)) (c .before .before .args .f) (c .before .before .args .g) (c .before .before .pre .1 .1) (c .of-frame .result) (c .of-frame .ensures .0) in
