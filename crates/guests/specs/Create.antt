@@ -18,12 +18,12 @@ use Rattle.ledger.specs.Stock.{Stock, Changed, Taken}
 use Rattle.ledger.specs.Laws.{guest-low}
 use Rattle.ledger.specs.Words.{state-words}
 use Rattle.ledger.specs.Sound.{Sound, free-of, free-is, chosen}
-use Rattle.operation.specs.Answers.{Operation, Done, passed, still-sound}
+use Rattle.operation.specs.Answers.{Operation, Done, passed, good-done}
 
 abbrev pub creating : (g : ℕ) → Operation
 creating g s pick = create s g pick
 
-module _ (m l : List ℕ) (ok : Sound m l) (g : ℕ) (h : refusal (create (state-of m l) g (pick-of l)) ≡ 0) where
+module _ {m l : List ℕ} (ok : Sound m l) (g : ℕ) (h : refusal (create (state-of m l) g (pick-of l)) ≡ 0) where
   abbrev after : State
   after = with-root (state-of m l) g (pick-of l 0)
 
@@ -54,10 +54,8 @@ module _ (m l : List ℕ) (ok : Sound m l) (g : ℕ) (h : refusal (create (state
   -- the next free frame is taken, cleared and made the root
   pub create-end : (t : ℕ) (l₁ l₂ l′ m′ : List ℕ) → t ≡ pick-of l 0 → Taken t (table g 3 0) l l₁ → word-of m′ ≡ upd (word-of m) t zeros → length m′ ≡ length m →
       Changed (with-existence g true) l₁ l₂ → Changed (with-root-at g t) l₂ l′ → Done (creating g) m l m′ l′
-  create-end t l₁ l₂ l′ m′ e x w len c d = record {
-    sound = still-sound m l m′ l′ (create (state-of m l) g (pick-of l)) ok (λ k q. create-good (state-of m l) (ok .core) k q g (pick-of l) (chosen l (ok .stock) m)) made (d .stock) len (unfold with-root in ap (λ (x : State). x .size) state);
-    made = made;
-  }
+  create-end t l₁ l₂ l′ m′ e x w len c d =
+      good-done (creating g) after ok (λ k q. create-good (state-of m l) (ok .core) k q g (pick-of l) (chosen l (ok .stock) m)) create-is (d .stock) len (unfold with-root in refl) state
     where
       same : (t : ℕ) → with-root-at g t (with-existence g true (with-kind t (table g 3 0) (with-words (upd (word-of m) t zeros) (state-of m l)))) ≡ with-root (state-of m l) g t
       same t = unfold with-root-at with-existence with-kind with-words remade with-root state-in in refl
@@ -67,6 +65,3 @@ module _ (m l : List ℕ) (ok : Sound m l) (g : ℕ) (h : refusal (create (state
           d .state m′ ∙ ap (with-root-at g t) (c .state m′ ∙ ap (with-existence g true) (x .changes .state m′))
           ∙ ap (λ (y : State). with-root-at g t (with-existence g true (with-kind t (table g 3 0) y))) (state-words m m′ l (upd (word-of m) t zeros) w)
           ∙ same t ∙ ap (with-root (state-of m l) g) e
-
-      made : create (state-of m l) g (pick-of l) ≡ done (state-of m′ l′)
-      made = create-is ∙ ap done (sym state)

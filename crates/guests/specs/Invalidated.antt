@@ -16,13 +16,13 @@ use Rattle.ledger.specs.Fields.{remade, with-dirt}
 use Rattle.ledger.specs.Stock.{Changed}
 use Rattle.ledger.specs.Laws.{guest-low}
 use Rattle.ledger.specs.Sound.{Sound}
-use Rattle.operation.specs.Answers.{Operation, Done, passed, core-sound}
+use Rattle.operation.specs.Answers.{Operation, Done, passed, core-done}
 use Rattle.guests.specs.Upto.{upto, at-all, with-rows, same, upto-size}
 
 abbrev pub invalidating : (g : ℕ) → Operation
 invalidating g s pick = invalidated s g
 
-module _ (m l : List ℕ) (ok : Sound m l) (g : ℕ) (h : refusal (invalidated (state-of m l) g) ≡ 0) where
+module _ {m l : List ℕ} (ok : Sound m l) (g : ℕ) (h : refusal (invalidated (state-of m l) g) ≡ 0) where
   is-one : is-guest g ≡ true
   unfolding invalidated
   is-one = passed (is-guest g) 1 _ (omega arith) h .0
@@ -40,16 +40,10 @@ module _ (m l : List ℕ) (ok : Sound m l) (g : ℕ) (h : refusal (invalidated (
 
   -- every frame is released, and then g is not dirty
   pub invalidated-end : (l₁ l′ : List ℕ) → Changed (upto (released g) same (size-of l)) l l₁ → Changed (with-dirt g false) l₁ l′ → Done (invalidating g) m l m l′
-  invalidated-end l₁ l′ c d = record {
-    sound = core-sound m l m l′ (invalidated (state-of m l) g) ok core-after made (d .stock) refl (unfold clean in ap (λ (x : State). x .size) state);
-    made = made;
-  }
+  invalidated-end l₁ l′ c d = core-done (invalidating g) (clean (state-of m l) g) ok core-after invalidated-is (d .stock) refl (unfold clean in refl) state
     where
       last : with-dirt g false (at-all (released g) same (state-of m l)) ≡ clean (state-of m l) g
       last = unfold with-dirt at-all with-rows remade clean in refl
 
       state : state-of m l′ ≡ clean (state-of m l) g
       state = d .state m ∙ ap (with-dirt g false) (c .state m ∙ upto-size (released g) same m l (ok .stock) (unfold released in refl) refl) ∙ last
-
-      made : invalidated (state-of m l) g ≡ done (state-of m l′)
-      made = invalidated-is ∙ ap done (sym state)

@@ -19,12 +19,12 @@ use Rattle.ledger.specs.Stock.{Stock, Changed, Taken}
 use Rattle.ledger.specs.Laws.{guest-low}
 use Rattle.ledger.specs.Words.{state-words}
 use Rattle.ledger.specs.Sound.{Sound, guest-there}
-use Rattle.operation.specs.Answers.{Operation, Done, passed, still-sound}
+use Rattle.operation.specs.Answers.{Operation, Done, passed, good-done}
 
 abbrev pub giving : (f g : ℕ) → Operation
 giving f g s pick = give s f g
 
-module _ (m l : List ℕ) (ok : Sound m l) (f g : ℕ) (h : refusal (give (state-of m l) f g) ≡ 0) where
+module _ {m l : List ℕ} (ok : Sound m l) (f g : ℕ) (h : refusal (give (state-of m l) f g) ≡ 0) where
   abbrev after : State
   after = becomes (state-of m l) f (page g) (upd (word-of m) f zeros) (upd (state-of m l .shared) f zeros)
 
@@ -54,10 +54,7 @@ module _ (m l : List ℕ) (ok : Sound m l) (f g : ℕ) (h : refusal (give (state
 
   -- the frame is taken, nobody shares it, and its words are 0
   pub give-end : (l₁ l′ m′ : List ℕ) → Taken f (page g) l l₁ → Changed (with-no-shares f) l₁ l′ → word-of m′ ≡ upd (word-of m) f zeros → length m′ ≡ length m → Done (giving f g) m l m′ l′
-  give-end l₁ l′ m′ t c w len = record {
-    sound = still-sound m l m′ l′ (give (state-of m l) f g) ok (λ k q. give-good (state-of m l) (ok .core) k q f g) made (c .stock) len (unfold becomes in ap (λ (x : State). x .size) state);
-    made = made;
-  }
+  give-end l₁ l′ m′ t c w len = good-done (giving f g) after ok (λ k q. give-good (state-of m l) (ok .core) k q f g) give-is (c .stock) len (unfold becomes in refl) state
     where
       same : with-no-shares f (with-kind f (page g) (with-words (upd (word-of m) f zeros) (state-of m l))) ≡ after
       same = unfold with-no-shares with-kind with-words remade becomes in refl
@@ -66,6 +63,3 @@ module _ (m l : List ℕ) (ok : Sound m l) (f g : ℕ) (h : refusal (give (state
       state =
           c .state m′ ∙ ap (with-no-shares f) (t .changes .state m′)
           ∙ ap (λ (x : State). with-no-shares f (with-kind f (page g) x)) (state-words m m′ l (upd (word-of m) f zeros) w) ∙ same
-
-      made : give (state-of m l) f g ≡ done (state-of m′ l′)
-      made = give-is ∙ ap done (sym state)

@@ -21,7 +21,7 @@ use Rattle.operation.specs.Quiet.{through, Owned, changed-so}
 abbrev pub taking : (f g : ℕ) → Operation
 taking f g s pick = take s f g
 
-module _ (m l : List ℕ) (ok : Sound m l) (f g : ℕ) (h : refusal (take (state-of m l) f g) ≡ 0) where
+module _ {m l : List ℕ} (ok : Sound m l) (f g : ℕ) (h : refusal (take (state-of m l) f g) ≡ 0) where
   abbrev after : Kind → State
   after k = becomes (state-of m l) f k (word-of m) (shared-of l)
 
@@ -45,7 +45,7 @@ module _ (m l : List ℕ) (ok : Sound m l) (f g : ℕ) (h : refusal (take (state
 
   take-end : {φ : State → State} (l′ : List ℕ) (k : Kind) → k ≡ then-kind → φ (state-of m l) ≡ with-kind f k (state-of m l) → Changed φ l l′ → Done (taking f g) m l m l′
   take-end l′ k e q c =
-      changed-so (taking f g) m l l′ (after then-kind) ok (λ x y. take-good (state-of m l) (ok .core) x y f g) (take-passed .1) c
+      changed-so (taking f g) (after then-kind) ok (λ x y. take-good (state-of m l) (ok .core) x y f g) (take-passed .1) c
       (q ∙ same ∙ ap after e) (unfold becomes in refl)
     where
       same : with-kind f k (state-of m l) ≡ after k

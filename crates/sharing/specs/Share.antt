@@ -62,7 +62,7 @@ module _ (c : ℕ) (d : Bool) (s : State) where
   unfolding check
   wide-out b e = rw e
 
-module _ (m l : List ℕ) (ok : Sound m l) (g f h : ℕ) where
+module _ {m l : List ℕ} (ok : Sound m l) (g f h : ℕ) where
   abbrev after : ℕ → State
   after how = becomes (state-of m l) f (page g) (word-of m) (upd2 (shared-of l) f h how)
 
@@ -75,7 +75,7 @@ module _ (m l : List ℕ) (ok : Sound m l) (g f h : ℕ) where
 
   shared-end : (o : Operation) (how : ℕ) (l′ : List ℕ) → ((k : Caches) → Kept (state-of m l) k → Good k (out o m l)) → Owned l f g h → out o m l ≡ done (after how) →
       Changed (with-share f h how) l l′ → Done o m l m l′
-  shared-end o how l′ good x e c = changed-so o m l l′ (after how) ok good e c same (unfold becomes in refl)
+  shared-end o how l′ good x e c = changed-so o (after how) ok good e c same (unfold becomes in refl)
     where
       stays : kind-of l ≡ upd (kind-of l) f (page g)
       stays = sym (upd-self (kind-of l) f) ∙ ap (upd (kind-of l) f) (x .its-page)
