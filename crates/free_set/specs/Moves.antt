@@ -7,9 +7,9 @@ use Prim.Native.Nat.{ℕ, suc, _+_, _*_, _-_, _≤_, _<_}
 use native.Mathlib.Omega.{arith}
 use lib.Dec.{eqb}
 use lib.ListN.{length}
-use borrow.Author.Tests.{eq-eqb, ne-eqb, eqb-true}
+use borrow.Author.Tests.{eq-eqb, eqb-true}
 use Rattle.model.specs.Base.{upd, upd2}
-use Rattle.model.specs.State.{State, Kind, free, table, page, is-free}
+use Rattle.model.specs.State.{Kind, free, table, page, is-free}
 use Rattle.model.specs.Changes.{drained, released}
 use Rattle.ledger.specs.Cells.{store}
 use Rattle.ledger.specs.Layout.{Row, frames, guest-rows, most-frames, kind-at, size-in, pick-in, pick-of, size-of, kind-of, state-in, state-of}
@@ -52,11 +52,11 @@ module _ (l : List ℕ) (s : Stock l) (f : ℕ) (hf : f < size-of l) where
   G = guest-rows l
 
   -- the rows that an exchange stores to
-  pub place-row : (p : ℕ) → p ≡ F 13 f → Row l p
-  place-row p e = row-low l s p (rw e (s .free-set .p-low f hf))
+  pub place-row : {p : ℕ} → p ≡ F 13 f → Row l p
+  place-row {p} e = row-low l s p (rw e (s .free-set .p-low f hf))
 
-  pub frame-row : (q e : ℕ) → q < size-of l → e ≡ F 12 q → Row l e
-  frame-row q e hq x = row-low l s e (rw x (s .free-set .d-low q hq))
+  pub frame-row : {q e : ℕ} → q < size-of l → e ≡ F 12 q → Row l e
+  frame-row {q} {e} hq x = row-low l s e (rw x (s .free-set .d-low q hq))
 
   free-cell : kind-of l f ≡ free → F 0 f ≡ 1
   free-cell e = eqb-true (F 0 f) 1 (sym (free-here F G f hf) ∙ ap is-free e)
@@ -77,8 +77,8 @@ module _ (l : List ℕ) (s : Stock l) (f : ℕ) (hf : f < size-of l) where
     holds-settled =
         let a = row-low l s f hf in let a1 = a .1 in
         let b = row-low l s q hq in
-        let c = place-row (F 13 f) refl in
-        let d = frame-row q (F 12 q) hq refl in
+        let c = place-row refl in
+        let d = frame-row hq refl in
         holds-frame (holds-guest (holds-placed (holds-placed (holds-itself l) (F 12 q) (F 13 f) (d .0) (d .1) (c .0) (c .1)) f q (a .0) (a .1) (b .0) (b .1))
         3 0 count′ (omega arith) (omega arith) (guests-there l s)) 0 f k (omega arith) (a .0) (omega arith)
 
@@ -134,16 +134,16 @@ module _ (l : List ℕ) (s : Stock l) (f : ℕ) (hf : f < size-of l) where
         taken : F″ 1 ≡ upd (F 1) f g → F″ 2 ≡ upd (F 2) f h → F″ 3 ≡ upd (F 3) f p → Aside F F″ → Taken f (kind-at k g h p) l l′
         taken e1 e2 e3 same = record { changes = becomes last k last (last-place .1) left l′ F″ g h p x e0 e12 e13 e1 e2 e3 same; next = next-picked }
 
-    pub page-taken : (g : ℕ) (l₁ l′ : List ℕ) → l₁ ≡ settled l f last 4 last → l′ ≡ store 144 l₁ 1 f g → Taken f (page g) l l′
+    pub page-taken : {g : ℕ} {l₁ l′ : List ℕ} → l₁ ≡ settled l f last 4 last → l′ ≡ store 144 l₁ 1 f g → Taken f (page g) l l′
     unfolding kind-at upd2 upd
-    page-taken g l₁ l′ a b =
+    page-taken {g} {l₁} {l′} a b =
         let row = row-low l s f hf in let row1 = row .1 in
         taken 4 (λ e. omega arith) l′ (upd2 (Fₖ 4 (λ e. omega arith)) 1 f g) g (F 2 f) (F 3 f) (rw (b, a) (holds-frame (holds-left 4 (λ e. omega arith)) 1 f g (omega arith) (row .0) (omega arith)))
         refl refl refl refl (sym (upd-self (F 2) f)) (sym (upd-self (F 3) f)) (aside (aside-settled last 4 last (last-place .1) (left 4 (λ e. omega arith))) 1 f g (inl (omega arith)))
 
-    pub table-taken : (g h p : ℕ) (l₁ l₂ l₃ l′ : List ℕ) → l₁ ≡ settled l f last 2 last → l₂ ≡ store 144 l₁ 1 f g → l₃ ≡ store 144 l₂ 2 f h → l′ ≡ store 144 l₃ 3 f p → Taken f (table g h p) l l′
+    pub table-taken : {g h p : ℕ} {l₁ l₂ l₃ l′ : List ℕ} → l₁ ≡ settled l f last 2 last → l₂ ≡ store 144 l₁ 1 f g → l₃ ≡ store 144 l₂ 2 f h → l′ ≡ store 144 l₃ 3 f p → Taken f (table g h p) l l′
     unfolding kind-at upd2 upd
-    table-taken g h p l₁ l₂ l₃ l′ a b c d =
+    table-taken {g} {h} {p} {l₁} {l₂} {l₃} {l′} a b c d =
         let row = row-low l s f hf in let row1 = row .1 in
         let x = holds-frame (holds-frame (holds-frame (holds-left 2 (λ e. omega arith)) 1 f g (omega arith) (row .0) (omega arith)) 2 f h (omega arith) (row .0) (omega arith)) 3 f p (omega arith) (row .0) (omega arith) in
         taken 2 (λ e. omega arith) l′ (upd2 (upd2 (upd2 (Fₖ 2 (λ e. omega arith)) 1 f g) 2 f h) 3 f p) g h p (rw (d, c, b, a) x) refl refl refl refl refl refl
@@ -154,12 +154,12 @@ module _ (l : List ℕ) (s : Stock l) (f : ℕ) (hf : f < size-of l) where
     place-left : G 3 0 < size-of l
     place-left = room-left (size-of l) (F 0) (F 12) (F 13) (G 3 0) f (s .free-set) hf was
 
-    pub next-place : (c : ℕ) → c ≡ G 3 0 → c < size-of l
-    next-place c e = let a = place-left in omega arith
+    pub next-place : {c : ℕ} → c ≡ G 3 0 → c < size-of l
+    next-place {c} e = let a = place-left in omega arith
 
-    pub freed : (c : ℕ) (l′ : List ℕ) → c ≡ G 3 0 → l′ ≡ settled l f c 1 (c + 1) → Changed (with-kind f free) l l′
+    pub freed : {c : ℕ} {l′ : List ℕ} → c ≡ G 3 0 → l′ ≡ settled l f c 1 (c + 1) → Changed (with-kind f free) l l′
     unfolding kind-at upd2 upd
-    freed c l′ e x =
+    freed {c} {l′} e x =
         let a = joined in
         rw (x, e) (becomes (G 3 0) 1 (G 3 0 + 1) place-left a (settled l f (G 3 0) 1 (G 3 0 + 1)) (F′ (G 3 0) 1 (G 3 0 + 1) place-left a) (F 1 f) (F 2 f) (F 3 f) (holds-settled (G 3 0) 1 (G 3 0 + 1) place-left a)
         refl refl refl (sym (upd-self (F 1) f)) (sym (upd-self (F 2) f)) (sym (upd-self (F 3) f)) (aside-settled (G 3 0) 1 (G 3 0 + 1) place-left a))
@@ -195,40 +195,35 @@ module _ (l : List ℕ) (s : Stock l) (f : ℕ) (hf : f < size-of l) where
         go true x = (refl, x)
         go false x = absurd (omega arith)
 
-    known : (φ : Kind → Kind) (j : ℕ) (y : Kind) → k ≡ j → 0 < j → (eqb (F 1 f) g ≡ true → φ (kind-at j (F 1 f) (F 2 f) (F 3 f)) ≡ y) → φ (kind-of l f) ≡ y
+    known : {A : Type 0} (φ : Kind → A) (j : ℕ) (y : A) → k ≡ j → 0 < j → (eqb (F 1 f) g ≡ true → φ (kind-at j (F 1 f) (F 2 f) (F 3 f)) ≡ y) → φ (kind-of l f) ≡ y
     known φ j y e pos x = let a = is-it j e pos in rw (kind-here F G f hf, a .1) (x (a .0))
-
-    pub not-free : (j : ℕ) → k ≡ j → 1 < j → is-free (kind-of l f) ≡ false
-    not-free j e more = let a = is-it j e (omega arith) in let a1 = a .1 in free-here F G f hf ∙ ne-eqb (F 0 f) 1 (λ (x : F 0 f ≡ 1). omega arith)
 
     pub drain-none : (k ≡ 2 → ⊥) → (k ≡ 4 → ⊥) → Changed (with-kind-by f (drained g)) l l
     drain-none a b = unturned _ (rw (kind-here F G f hf) (stays (F 1 f) (F 2 f) (F 3 f) g (F 0 f) (λ e. a (ek ∙ e)) (λ e. b (ek ∙ e))))
 
-    pub drain-one : (j : ℕ) (l′ : List ℕ) → (j ≡ 2) ⊎ (j ≡ 4) → k ≡ j → l′ ≡ store 144 l 0 f (j + 1) → Changed (with-kind-by f (drained g)) l l′
-    drain-one j l′ which e x =
-        turned _ _ l′ (to j which e) (relabelled (λ (y : F 0 f ≡ 1). one j which (sym (is-it j e (some j which) .1) ∙ y)) (j + 1) l′ (λ y. two j which y) x)
+    pub in-use : (k ≡ 2) ⊎ (k ≡ 4) → (1 < k) × (k ≤ 4)
+    in-use (inl e) = (omega arith, omega arith)
+    in-use (inr e) = (omega arith, omega arith)
+
+    pub drain-one : {l′ : List ℕ} → (k ≡ 2) ⊎ (k ≡ 4) → l′ ≡ store 144 l 0 f (k + 1) → Changed (with-kind-by f (drained g)) l l′
+    drain-one {l′} which x =
+        let low = in-use which in let low0 = low .0 in
+        let a = is-it k refl (omega arith) in let a1 = a .1 in
+        turned _ _ l′ (to which) (relabelled (λ (y : F 0 f ≡ 1). omega arith) (k + 1) l′ (λ (y : k + 1 ≡ 1). omega arith) x)
       where
-        some : (j : ℕ) → (j ≡ 2) ⊎ (j ≡ 4) → 0 < j
-        some j (inl y) = omega arith
-        some j (inr y) = omega arith
-
-        one : (j : ℕ) → (j ≡ 2) ⊎ (j ≡ 4) → j ≡ 1 → ⊥
-        one j (inl y) z = omega arith
-        one j (inr y) z = omega arith
-
-        two : (j : ℕ) → (j ≡ 2) ⊎ (j ≡ 4) → j + 1 ≡ 1 → ⊥
-        two j (inl y) z = omega arith
-        two j (inr y) z = omega arith
-
-        to : (j : ℕ) → (j ≡ 2) ⊎ (j ≡ 4) → k ≡ j → drained g (kind-of l f) ≡ kind-at (j + 1) (F 1 f) (F 2 f) (F 3 f)
-        to j (inl y) e = rw y (known (drained g) 2 (kind-at 3 (F 1 f) (F 2 f) (F 3 f)) (e ∙ y) (omega arith) (λ t. unfold kind-at drained in rw t))
-        to j (inr y) e = rw y (known (drained g) 4 (kind-at 5 (F 1 f) (F 2 f) (F 3 f)) (e ∙ y) (omega arith) (λ t. unfold kind-at drained in rw t))
+        to : (k ≡ 2) ⊎ (k ≡ 4) → drained g (kind-of l f) ≡ kind-at (k + 1) (F 1 f) (F 2 f) (F 3 f)
+        to (inl y) = rw y (known (drained g) 2 (kind-at 3 (F 1 f) (F 2 f) (F 3 f)) y (omega arith) (λ t. unfold kind-at drained in rw t))
+        to (inr y) = rw y (known (drained g) 4 (kind-at 5 (F 1 f) (F 2 f) (F 3 f)) y (omega arith) (λ t. unfold kind-at drained in rw t))
 
     pub release-none : (k ≡ 3 → ⊥) → (k ≡ 5 → ⊥) → Changed (with-kind-by f (released g)) l l
     release-none a b = unturned _ (rw (kind-here F G f hf) (remains (F 1 f) (F 2 f) (F 3 f) g (F 0 f) (λ e. a (ek ∙ e)) (λ e. b (ek ∙ e))))
 
-    pub release-one : (l′ : List ℕ) → (k ≡ 3) ⊎ (k ≡ 5) → Changed (with-kind f free) l l′ → Changed (with-kind-by f (released g)) l l′
-    release-one l′ which c = turned _ free l′ (to which) c
+    pub not-free : (k ≡ 3) ⊎ (k ≡ 5) → is-free (kind-of l f) ≡ false
+    not-free (inl e) = known is-free 3 false e (omega arith) (λ _. unfold kind-at in refl)
+    not-free (inr e) = known is-free 5 false e (omega arith) (λ _. unfold kind-at in refl)
+
+    pub release-one : {l′ : List ℕ} → (k ≡ 3) ⊎ (k ≡ 5) → Changed (with-kind f free) l l′ → Changed (with-kind-by f (released g)) l l′
+    release-one {l′} which c = turned _ free l′ (to which) c
       where
         to : (k ≡ 3) ⊎ (k ≡ 5) → released g (kind-of l f) ≡ free
         to (inl y) = known (released g) 3 free y (omega arith) (λ t. unfold kind-at released in rw t)

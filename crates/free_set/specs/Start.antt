@@ -3,15 +3,15 @@ use mathlib.Core.Path.{_≡_, refl, sym, ap, _∙_, fun-ext}
 use mathlib.Core.Bool.{Bool, true, false, _&&_, _||_, cond}
 use mathlib.Core.Logic.{_⊎_, inl, inr}
 use mathlib.Core.List.{List}
-use Prim.Native.Nat.{ℕ, zero, suc, _+_, _*_, _-_, _≤_, _<_, _/_, _%_}
+use Prim.Native.Nat.{ℕ, _+_, _*_, _-_, _≤_, _<_, _/_, _%_}
 use native.Mathlib.Omega.{arith}
-use lib.Dec.{eqb, ltb, leb}
+use lib.Dec.{ltb}
 use lib.ListN.{length, getD, List·getD-eq-default}
 use borrow.Author.Tests.{le-ltb, lt-ltb, le-leb, lt-leb}
 use Rattle.memory.specs.Word.{clearedAt}
 use Rattle.memory.specs.Laws.{cleared-length, cleared-byte}
-use Rattle.model.specs.Base.{eq?, lt?, upd, upd-at, upd-other, upd2}
-use Rattle.model.specs.State.{Kind, monitor, free, is-guest}
+use Rattle.model.specs.Base.{lt?, upd, upd-at, upd-other, upd2}
+use Rattle.model.specs.State.{monitor, free, is-guest}
 use Rattle.model.specs.Operations.{at-first, started}
 use Rattle.ledger.specs.Cells.{cell, store, column-other}
 use Rattle.ledger.specs.Layout.{frames, guest-rows, words-for, most-frames, kind-at, size-in, first-in, kind-in, per-guest, share-part, count-part, exists-in, dirty-in, root-in, pick-in, word-of, pick-of, state-in, state-of}
@@ -65,7 +65,7 @@ filled-none n k l l′ len e = rw e (record {
   guests-none = fun-ext (λ j. fun-ext (λ r. zero-cell 0 9 l j r));
 })
 
-module _ (n k i : ℕ) (l : List ℕ) (h : Filled n k i l) (hi : i < n) (few : n ≤ most-frames) where
+module _ {n k i : ℕ} {l : List ℕ} (h : Filled n k i l) (hi : i < n) (few : n ≤ most-frames) where
   pub row-fits : (i < most-frames) × (144 + 16 * i + 16 ≤ length l)
   row-fits = let a = h .length-is in (omega arith, omega arith)
 
@@ -83,9 +83,9 @@ module _ (n k i : ℕ) (l : List ℕ) (h : Filled n k i l) (hi : i < n) (few : n
   before : (r : ℕ) → r < i + 1 → (r ≡ i) ⊎ (r < i)
   before r a = elim (lt? r i) [ inl b ↦ inr b | inr b ↦ inl (omega arith) ]
 
-  pub filled-more : (v : ℕ) (l₁ l′ : List ℕ) → v ≡ kind-first k i → l₁ ≡ store 144 l 0 i v → l′ ≡ placed l₁ i (n - 1 - i) → Filled n k (i + 1) l′
+  pub filled-more : {v : ℕ} {l₁ l′ : List ℕ} → v ≡ kind-first k i → l₁ ≡ store 144 l 0 i v → l′ ≡ placed l₁ i (n - 1 - i) → Filled n k (i + 1) l′
   unfolding upd2 upd
-  filled-more v l₁ l′ ev e1 e2 =
+  filled-more {v} {l₁} {l′} ev e1 e2 =
       let d = three v in
       rw (e2, e1) (record {
         length-is = d .length-is;
@@ -109,7 +109,7 @@ unfoldable pub ram-stored : List ℕ → (n first : ℕ) → List ℕ
 ram-stored l n first = store 0 (store 0 (store 0 l 4 0 n) 5 0 (first % 4294967296)) 6 0 (first / 4294967296)
 
 -- the whole ledger
-module _ (n b k : ℕ) (l : List ℕ) (h : Filled n k n l) (hk : k < n) (few : n ≤ most-frames) where
+module _ (b : ℕ) {n k : ℕ} {l : List ℕ} (h : Filled n k n l) (hk : k < n) (few : n ≤ most-frames) where
   abbrev F : ℕ → ℕ → ℕ
   F = frames l
 
@@ -181,9 +181,9 @@ module _ (n b k : ℕ) (l : List ℕ) (h : Filled n k n l) (hk : k < n) (few : n
       back : n - 1 - (n - k - 1 - i) ≡ k + i
       back = omega arith
 
-  pub laid-out : (l₁ l′ : List ℕ) → l₁ ≡ ram-stored l n (b / 4096) → l′ ≡ store 0 l₁ 3 0 (n - k) → LaidOut n b k l′
+  pub laid-out : {l₁ l′ : List ℕ} → l₁ ≡ ram-stored l n (b / 4096) → l′ ≡ store 0 l₁ 3 0 (n - k) → LaidOut n b k l′
   unfolding ram-stored
-  laid-out l₁ l′ e1 e2 =
+  laid-out {l₁} {l′} e1 e2 =
       let len = h .length-is in
       let d : Holds (words-for n) l F none = record { length-is = h .length-is; frames-are = refl; guests-are = h .guests-none } in
       let x : Holds (words-for n) l′ F G = rw (e2, e1) (holds-guest (holds-guest (holds-guest (holds-guest d

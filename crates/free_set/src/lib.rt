@@ -112,13 +112,12 @@ pub fn drain(ledger: &mut [u32], f: u64, g: u64)
     ensures { λ _. ⌜ Changed (with-kind-by f (drained g)) (now (ledger .entry)) (now (ledger .exit)) ⌝ }
 {
     let k = frame::kind_for(ledger, f, g);
-    if k == 2 {
-        cells::store_of_frame(ledger, 0, f, 3);
-        return;
+    if k != 2 {
+        if k != 4 {
+            return;
+        }
     }
-    if k == 4 {
-        cells::store_of_frame(ledger, 0, f, 5);
-    }
+    cells::store_of_frame(ledger, 0, f, k + 1);
 }
 
 // Frame f, if it drains for guest g, becomes free.
@@ -128,11 +127,10 @@ pub fn release(ledger: &mut [u32], f: u64, g: u64)
     ensures { λ _. ⌜ Changed (with-kind-by f (released g)) (now (ledger .entry)) (now (ledger .exit)) ⌝ }
 {
     let k = frame::kind_for(ledger, f, g);
-    if k == 3 {
-        put_back(ledger, f);
-        return;
+    if k != 3 {
+        if k != 5 {
+            return;
+        }
     }
-    if k == 5 {
-        put_back(ledger, f);
-    }
+    put_back(ledger, f);
 }

@@ -1,6 +1,6 @@
 // The ledger right after set-up: the first k frames are the monitor's, and every other is free, the lowest first in order.
 ghost use mathlib.Core.Path.{_≡_};
-ghost use Prim.Native.Nat.{_+_, _*_, _-_, _<_, _≤_, _^_};
+ghost use Prim.Native.Nat.{_+_, _-_, _<_, _≤_};
 ghost use lib.ListN.{length};
 ghost use Rattle.memory.specs.Word.{clearedAt};
 ghost use Rattle.ledger.specs.Layout.{words-for, most-frames};

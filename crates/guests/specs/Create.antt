@@ -1,20 +1,20 @@
 -- create: the two slices after it.
-use mathlib.Core.Path.{_≡_, refl, sym, ap, _∙_}
-use mathlib.Core.Bool.{Bool, true, false, not, _&&_}
+use mathlib.Core.Path.{_≡_, refl, ap, _∙_}
+use mathlib.Core.Bool.{true, not, _&&_}
 use mathlib.Core.List.{List}
-use Prim.Native.Nat.{ℕ, _+_, _*_, _<_, _≤_}
+use Prim.Native.Nat.{ℕ, _<_}
 use native.Mathlib.Omega.{arith}
-use lib.Dec.{eqb, ltb, leb}
+use lib.Dec.{leb}
 use lib.ListN.{length}
 use borrow.Author.Tests.{leb-true}
 use Rattle.model.specs.Base.{upd}
-use Rattle.model.specs.State.{State, Kind, free, table, is-guest, free-frames}
+use Rattle.model.specs.State.{State, table, is-guest, free-frames}
 use Rattle.model.specs.Changes.{zeros, with-root}
-use Rattle.model.specs.Operations.{Out, done, refusal, check, create}
+use Rattle.model.specs.Operations.{done, refusal, check, create}
 use Rattle.model.specs.Invariant.Create.{create-good}
-use Rattle.ledger.specs.Layout.{size-of, exists-of, dirty-of, kind-of, word-of, pick-of, state-in, state-of}
+use Rattle.ledger.specs.Layout.{exists-of, dirty-of, word-of, pick-of, state-in, state-of}
 use Rattle.ledger.specs.Fields.{remade, with-kind, with-words, with-existence, with-root-at}
-use Rattle.ledger.specs.Stock.{Stock, Changed, Taken}
+use Rattle.ledger.specs.Stock.{Changed, Taken}
 use Rattle.ledger.specs.Laws.{guest-low}
 use Rattle.ledger.specs.Words.{state-words}
 use Rattle.ledger.specs.Sound.{Sound, free-of, free-is, chosen}

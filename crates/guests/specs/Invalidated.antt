@@ -1,17 +1,16 @@
 -- invalidated: the ledger after it.
-use mathlib.Core.Path.{_≡_, refl, sym, ap, _∙_}
+use mathlib.Core.Path.{_≡_, refl, ap, _∙_}
 use mathlib.Core.Bool.{true, false}
 use mathlib.Core.List.{List}
 use Prim.Native.Nat.{ℕ, _<_}
 use native.Mathlib.Omega.{arith}
-use Rattle.model.specs.Base.{upd}
-use Rattle.model.specs.State.{State, is-guest}
+use Rattle.model.specs.State.{is-guest}
 use Rattle.model.specs.Changes.{released, clean}
 use Rattle.model.specs.Operations.{done, refusal, check, invalidated}
 use Rattle.model.specs.Invariant.Core.{Core}
 use Rattle.model.specs.Invariant.Answer.{Then, then-done, checked}
 use Rattle.model.specs.Invariant.Invalidated.{clean-core}
-use Rattle.ledger.specs.Layout.{size-of, state-in, state-of}
+use Rattle.ledger.specs.Layout.{size-of, state-of}
 use Rattle.ledger.specs.Fields.{remade, with-dirt}
 use Rattle.ledger.specs.Stock.{Changed}
 use Rattle.ledger.specs.Laws.{guest-low}

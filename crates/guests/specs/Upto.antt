@@ -2,18 +2,18 @@
 -- invalidated and destroy are such loops; when all are done, the frames past the last are as if they were done too.
 use mathlib.Core.Path.{_≡_, refl, sym, ap, _∙_, fun-ext}
 use mathlib.Core.Bool.{Bool, true, false, _&&_, cond}
-use mathlib.Core.Logic.{_⊎_, inl, inr}
+use mathlib.Core.Logic.{inl, inr}
 use mathlib.Core.List.{List}
 use Prim.Native.Nat.{ℕ, _+_, _*_, _<_, _≤_}
 use native.Mathlib.Omega.{arith}
-use lib.Dec.{eqb, ltb}
-use lib.ListN.{length, getD, List·getD-eq-default}
+use lib.Dec.{ltb}
+use lib.ListN.{getD, List·getD-eq-default}
 use borrow.Author.Tests.{lt-ltb, le-ltb}
 use Rattle.model.specs.Base.{bool?, eq?, lt?, upd, upd-at, upd-other, upd2}
 use Rattle.model.specs.State.{State, Kind, monitor, is-guest}
 use Rattle.model.specs.Changes.{zeros, drained, released}
 use Rattle.ledger.specs.Cells.{cell}
-use Rattle.ledger.specs.Layout.{most-frames, frames, guest-rows, kind-in, per-guest, count-part, size-of, kind-of, count-of, state-in, state-of}
+use Rattle.ledger.specs.Layout.{most-frames, frames, kind-in, per-guest, count-part, size-of, kind-of, count-of, state-in, state-of}
 use Rattle.ledger.specs.Fields.{remade, with-kind, with-kind-by, with-count}
 use Rattle.ledger.specs.Stock.{Stock, Changed, changed-as, changed-then}
 use Rattle.ledger.specs.Laws.{upd-self}

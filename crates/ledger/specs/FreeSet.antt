@@ -2,12 +2,12 @@
 -- A frame that leaves or joins changes places with the last one inside or the first one outside.
 use mathlib.Core.Path.{_≡_, refl, sym, ap, _∙_}
 use mathlib.Core.Bool.{Bool, true, false, _&&_, cond}
-use mathlib.Core.Logic.{_⊎_, inl, inr}
-use Prim.Native.Nat.{ℕ, zero, suc, _+_, _*_, _-_, _≤_, _<_}
+use mathlib.Core.Logic.{inl, inr}
+use Prim.Native.Nat.{ℕ, zero, suc, _-_, _≤_, _<_}
 use native.Mathlib.Omega.{arith}
-use lib.Dec.{eqb, ltb, leb}
-use borrow.Author.Tests.{lt-ltb, le-ltb, eq-eqb, ne-eqb, eqb-true, ltb-true, ltb-false}
-use Rattle.model.specs.Base.{eq?, lt?, upd, upd-at, upd-other, sum, sum-cong, sum-none, sum-point}
+use lib.Dec.{eqb, ltb}
+use borrow.Author.Tests.{lt-ltb, le-ltb, eqb-true}
+use Rattle.model.specs.Base.{lt?, sum, sum-cong, sum-none, sum-point}
 
 -- K: what a frame is, 1 where it is free
 pub record FreeSet (n : ℕ) (K D P : ℕ → ℕ) (count : ℕ) : Type 0 where

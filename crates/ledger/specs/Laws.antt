@@ -1,19 +1,17 @@
 -- What each store does to the state: one equation for each field of the ledger.
 use mathlib.Core.Path.{_≡_, refl, sym, ap, _∙_, fun-ext}
-use mathlib.Core.Bool.{Bool, true, false, true≢false, _&&_, cond}
+use mathlib.Core.Bool.{Bool, true, false, true≢false, cond}
 use mathlib.Core.Logic.{_⊎_, inl, inr}
-use mathlib.Core.List.{List}
 use Prim.Native.Nat.{ℕ, zero, suc, _+_, _*_, _-_, _≤_, _<_, _/_, _%_}
 use native.Mathlib.Omega.{arith}
 use native.Mathlib.Numerals.{add-one}
 use lib.Dec.{eqb, ltb, leb}
-use lib.ListN.{length}
-use borrow.Author.Tests.{eq-eqb, ne-eqb, lt-ltb, le-ltb, le-leb, ltb-true, leb-true}
-use Rattle.model.specs.Base.{bool?, eq?, lt?, sum, sum-cong, sum-none, sum-zero, and-true, upd, upd-at, upd-same, upd-other, upd2, upd2-at, upd2-other}
-use Rattle.model.specs.State.{State, Kind, monitor, guests, is-guest, total}
+use borrow.Author.Tests.{lt-ltb, le-leb, ltb-true, leb-true}
+use Rattle.model.specs.Base.{bool?, eq?, lt?, sum, and-true, upd, upd-at, upd-other, upd2, upd2-at, upd2-other}
+use Rattle.model.specs.State.{State, monitor, guests, is-guest, total}
 use Rattle.model.specs.Changes.{zeros}
-use Rattle.ledger.specs.Cells.{store, column-other, column-same, upd-map}
-use Rattle.ledger.specs.Layout.{frames, guest-rows, words-for, most-frames, kind-at, size-in, first-in, kind-in, per-guest, share-part, count-part, exists-in, dirty-in, root-in, state-in}
+use Rattle.ledger.specs.Cells.{column-other, upd-map}
+use Rattle.ledger.specs.Layout.{kind-at, size-in, first-in, kind-in, per-guest, share-part, count-part, exists-in, dirty-in, root-in, state-in}
 use Rattle.ledger.specs.Fields.{remade, with-kind, with-cell, with-share, with-no-shares, with-count, with-existence, with-root-at, with-dirt}
 
 -- A guest's row.
@@ -110,6 +108,11 @@ pub kind-keep : (F F′ G : ℕ → ℕ → ℕ) → F′ 0 ≡ F 0 → F′ 1 �
 unfolding kind-in
 kind-keep F F′ G a b c d = fun-ext (λ f. rw (a, b, c, d))
 
+-- the two numbers of the cell
+pub cell-is : (F : ℕ → ℕ → ℕ) (f g : ℕ) → is-guest g ≡ true → {x : ℕ} → x ≡ F (3 + g) f → (x / 1073741824 ≡ per-guest share-part F f g) × (x % 1073741824 ≡ per-guest count-part F f g)
+unfolding per-guest share-part count-part
+cell-is F f g hg e = rw (hg, e) (refl, refl)
+
 module _ (F G w : ℕ → ℕ → ℕ) (f g : ℕ) (hg : is-guest g ≡ true) where
   off : (j : ℕ) → j < 4 → j ≡ 3 + g → ⊥
   off j l e = let a = guest-low g hg in omega arith
@@ -121,10 +124,6 @@ module _ (F G w : ℕ → ℕ → ℕ) (f g : ℕ) (hg : is-guest g ≡ true) wh
       (column-other F (3 + g) f v 1 (off 1 (omega arith)))
       (column-other F (3 + g) f v 2 (off 2 (omega arith)))
       (column-other F (3 + g) f v 3 (off 3 (omega arith)))
-
-  pub cell-is : (x : ℕ) → x ≡ F (3 + g) f → (x / 1073741824 ≡ per-guest share-part F f g) × (x % 1073741824 ≡ per-guest count-part F f g)
-  unfolding per-guest share-part count-part
-  cell-is x e = rw (hg, e) (refl, refl)
 
   pub state-cell : (how c v : ℕ) → c < 1073741824 → v ≡ how * 1073741824 + c → state-in (upd2 F (3 + g) f v) G w ≡ with-cell f g how c (state-in F G w)
   unfolding state-in with-cell remade

@@ -5,9 +5,9 @@
 --   frame:  0 what it is (kind-at) · 1 the guest · 2 a table's height · 3 the range that it serves, below 2^27
 --           3 + g, for guest g: the number of places where g maps it, plus 2^30 times what is shared with g (0, 1 or 2)
 --           12 the free set: the frame at a place, the free ones first · 13 the place of this frame
-use mathlib.Core.Bool.{Bool, true, false, _&&_, cond}
+use mathlib.Core.Bool.{Bool, cond}
 use mathlib.Core.List.{List}
-use Prim.Native.Nat.{ℕ, zero, suc, _+_, _*_, _-_, _≤_, _<_, _/_, _%_}
+use Prim.Native.Nat.{ℕ, _+_, _*_, _-_, _≤_, _<_, _/_, _%_}
 use lib.Dec.{eqb, ltb}
 use lib.ListN.{length}
 use Rattle.memory.specs.Word.{wordAt}

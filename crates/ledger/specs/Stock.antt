@@ -1,14 +1,14 @@
 -- A ledger that fits: its length is that of its n, and its free set is right. Every function of this crate keeps it.
 -- Changed says what a function did: the state of the two slices is changed so, whatever RAM holds.
-use mathlib.Core.Path.{_≡_, refl, sym, ap, _∙_}
-use mathlib.Core.Logic.{_⊎_, inl, inr}
+use mathlib.Core.Path.{_≡_, refl, ap, _∙_}
+use mathlib.Core.Logic.{inl, inr}
 use mathlib.Core.List.{List}
 use Prim.Native.Nat.{ℕ, suc, _+_, _*_, _≤_, _<_}
 use native.Mathlib.Omega.{arith}
 use lib.ListN.{length}
 use Rattle.model.specs.Base.{upd2}
 use Rattle.model.specs.State.{State, Kind}
-use Rattle.ledger.specs.Cells.{cell, store, length-store, cell-store, cell-apart}
+use Rattle.ledger.specs.Cells.{store, length-store, cell-store, cell-apart}
 use Rattle.ledger.specs.Layout.{frames, guest-rows, words-for, most-frames, size-in, word-of, pick-of, state-in, state-of}
 use Rattle.ledger.specs.Fields.{with-kind}
 use Rattle.ledger.specs.FreeSet.{FreeSet}

@@ -10,7 +10,7 @@ use lib.Dec.{eqb, ltb, leb}
 use lib.ListN.{length}
 use borrow.Author.Tests.{le-leb, lt-leb, lt-ltb, le-ltb, ne-eqb}
 use Rattle.model.specs.Base.{lt?, upd2}
-use Rattle.model.specs.State.{State, table, page, pages, is-page, is-page-of, free-frames}
+use Rattle.model.specs.State.{State, page, pages, is-page, is-page-of, free-frames}
 use Rattle.model.specs.Entry.{page-entry}
 use Rattle.model.specs.Translate.{Page, is-some, mapped, missing}
 use Rattle.model.specs.Changes.{Grown, grow, with-page, with-mapping}

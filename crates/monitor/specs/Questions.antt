@@ -1,6 +1,6 @@
 -- What a host is told, of the state: a frame, a guest, and what an address of a guest translates to.
 use mathlib.Core.Path.{_≡_, refl, sym, ap, _∙_}
-use mathlib.Core.Bool.{Bool, true, false, cond}
+use mathlib.Core.Bool.{true, cond}
 use mathlib.Core.List.{List}
 use Prim.Native.Nat.{ℕ, _+_, _*_, _<_, _≤_, _^_}
 use native.Mathlib.Omega.{arith}
@@ -16,7 +16,7 @@ use Rattle.model.specs.Bytes.{Image, access, answers}
 use Rattle.model.specs.Invariant.Core.{in-room}
 use Rattle.model.specs.Invariant.Kinds.{sort}
 use Rattle.model.specs.Invariant.Bridge.{answer-says}
-use Rattle.ledger.specs.Layout.{size-of, first-of, root-of, exists-of, kind-of, count-of, word-of, state-in, state-of}
+use Rattle.ledger.specs.Layout.{size-of, first-of, root-of, exists-of, kind-of, count-of, state-in, state-of}
 use Rattle.ledger.specs.Kinds.{guest-in}
 use Rattle.ledger.specs.Words.{word-is}
 use Rattle.ledger.specs.Sound.{Sound}

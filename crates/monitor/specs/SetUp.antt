@@ -1,5 +1,5 @@
 -- Set-up, which counts on nothing: what fits, and the two slices after it.
-use mathlib.Core.Path.{_≡_, refl, sym, ap, _∙_}
+use mathlib.Core.Path.{_≡_, refl, ap}
 use mathlib.Core.Bool.{Bool, true, false, _&&_}
 use mathlib.Core.List.{List}
 use Prim.Native.Nat.{ℕ, _+_, _*_, _<_, _≤_, _/_, _%_}
@@ -11,7 +11,7 @@ use Rattle.model.specs.Base.{and-true}
 use Rattle.model.specs.State.{State, pages}
 use Rattle.model.specs.Operations.{Out, done, refusal, check, set-up, started}
 use Rattle.model.specs.Invariant.Holds.{started-core}
-use Rattle.ledger.specs.Layout.{words-for, most-frames, size-of, word-of, state-in, state-of}
+use Rattle.ledger.specs.Layout.{words-for, most-frames, size-of, word-of, state-in}
 use Rattle.free_set.specs.Start.{LaidOut}
 use Rattle.ledger.specs.Sound.{Sound}
 use Rattle.operation.specs.Answers.{Outcome, refused-so, stops, goes-on, passed, and-left, and-right, and-both}

@@ -1,10 +1,10 @@
 -- Operations that leave RAM alone: the checks taken off one by one, and one change of the ledger.
-use mathlib.Core.Path.{_≡_, refl, sym, ap, _∙_}
+use mathlib.Core.Path.{_≡_, refl, _∙_}
 use mathlib.Core.Bool.{Bool, true, false}
 use mathlib.Core.List.{List}
 use Prim.Native.Nat.{ℕ, _<_}
 use native.Mathlib.Omega.{arith}
-use Rattle.model.specs.State.{State, Kind, page, is-guest}
+use Rattle.model.specs.State.{State, page, is-guest}
 use Rattle.model.specs.Operations.{Out, done, refusal, check}
 use Rattle.model.specs.Cache.{Caches}
 use Rattle.model.specs.Invariant.Core.{Kept}

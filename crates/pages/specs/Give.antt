@@ -1,21 +1,21 @@
 -- give: the tests, one by one, and the two slices after it.
-use mathlib.Core.Path.{_≡_, refl, sym, ap, _∙_}
-use mathlib.Core.Bool.{Bool, true, false}
+use mathlib.Core.Path.{_≡_, refl, ap, _∙_}
+use mathlib.Core.Bool.{true}
 use mathlib.Core.List.{List}
-use Prim.Native.Nat.{ℕ, _+_, _*_, _<_, _≤_}
+use Prim.Native.Nat.{ℕ, _<_}
 use native.Mathlib.Omega.{arith}
 use lib.Dec.{ltb}
 use lib.ListN.{length}
 use borrow.Author.Tests.{ltb-true}
 use Rattle.model.specs.Base.{upd}
-use Rattle.model.specs.State.{State, Kind, free, page, is-free, is-guest}
+use Rattle.model.specs.State.{State, free, page, is-free}
 use Rattle.model.specs.Changes.{zeros, becomes}
-use Rattle.model.specs.Operations.{Out, done, refusal, check, give}
+use Rattle.model.specs.Operations.{done, refusal, check, give}
 use Rattle.model.specs.Invariant.Kinds.{free-is}
 use Rattle.model.specs.Invariant.GiveTake.{give-good}
 use Rattle.ledger.specs.Layout.{size-of, exists-of, kind-of, word-of, state-in, state-of}
 use Rattle.ledger.specs.Fields.{remade, with-kind, with-no-shares, with-words}
-use Rattle.ledger.specs.Stock.{Stock, Changed, Taken}
+use Rattle.ledger.specs.Stock.{Changed, Taken}
 use Rattle.ledger.specs.Laws.{guest-low}
 use Rattle.ledger.specs.Words.{state-words}
 use Rattle.ledger.specs.Sound.{Sound, guest-there}

@@ -1,14 +1,14 @@
 -- take: the ledger after it. The page drains, or is free.
 use mathlib.Core.Path.{_≡_, refl, ap, _∙_}
-use mathlib.Core.Bool.{Bool, true, false, _&&_, cond}
+use mathlib.Core.Bool.{true, false, _&&_, cond}
 use mathlib.Core.List.{List}
-use Prim.Native.Nat.{ℕ, _<_}
+use Prim.Native.Nat.{ℕ}
 use native.Mathlib.Omega.{arith}
 use lib.Dec.{eqb, ltb}
 use borrow.Author.Tests.{ltb-true, eq-eqb}
-use Rattle.model.specs.State.{State, Kind, free, page, draining-page, is-free, is-page-of, total}
+use Rattle.model.specs.State.{State, Kind, free, draining-page, is-free, is-page-of, total}
 use Rattle.model.specs.Changes.{becomes, drained}
-use Rattle.model.specs.Operations.{Out, done, refusal, check, take}
+use Rattle.model.specs.Operations.{done, refusal, take}
 use Rattle.model.specs.Invariant.Kinds.{page-of-is}
 use Rattle.model.specs.Invariant.GiveTake.{take-good}
 use Rattle.ledger.specs.Layout.{size-of, exists-of, dirty-of, kind-of, shared-of, count-of, word-of, state-in, state-of}

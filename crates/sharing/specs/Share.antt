@@ -2,14 +2,14 @@
 use mathlib.Core.Path.{_≡_, refl, sym, ap, _∙_}
 use mathlib.Core.Bool.{Bool, true, false, not, _&&_, _||_, cond}
 use mathlib.Core.List.{List}
-use Prim.Native.Nat.{ℕ, _<_, _≤_}
+use Prim.Native.Nat.{ℕ, _≤_}
 use native.Mathlib.Omega.{arith}
-use lib.Dec.{eqb, ltb, leb}
+use lib.Dec.{eqb, ltb}
 use borrow.Author.Tests.{ltb-true}
 use Rattle.model.specs.Base.{upd, upd2, and-true}
 use Rattle.model.specs.State.{State, Kind, page, is-page-of}
 use Rattle.model.specs.Changes.{becomes}
-use Rattle.model.specs.Operations.{Out, done, refusal, check, narrows, share, unshare}
+use Rattle.model.specs.Operations.{done, refusal, check, narrows, share, unshare}
 use Rattle.model.specs.Cache.{Caches}
 use Rattle.model.specs.Invariant.Core.{Kept}
 use Rattle.model.specs.Invariant.Answer.{Good}

@@ -15,7 +15,7 @@ same-length : tie.Need-same-length
 same-length c = search needs
 
 returns : tie.Need-returns
-returns c = page-taken (c .before .before .before .before .before .before .before .before .before .args .ledger .now) (c .before .before .before .before .before .before .before .before .before .pre .0) (c .before .before .before .before .before .before .before .before .before .args .f) (c .before .before .before .before .before .before .before .before .before .pre .1 .0) (c .before .before .before .before .before .before .before .before .before .pre .1 .1 .0) (c .before .before .before .before .before .before .before .before .before .args .g) _ _ (c .before .before .before .before .before .before .occupy .ensures) (c .before .before .store-of-frame .ensures)
+returns c = page-taken _ (c .before .before .before .before .before .before .before .before .before .pre .0) _ (c .before .before .before .before .before .before .before .before .before .pre .1 .0) (c .before .before .before .before .before .before .before .before .before .pre .1 .1 .0) (c .before .before .before .before .before .before .occupy .ensures) (c .before .before .store-of-frame .ensures)
 
 pub become-page-spec : {M : Type 1} → statement M
 become-page-spec = tie.close (tie.spec occupy-requires store-of-frame-requires same-length returns)

@@ -13,13 +13,13 @@ add-settle : tie.Need-add-settle
 add-settle c = search needs
 
 settle-requires : tie.Need-settle-requires
-settle-requires c κs = (c .before .before .before .before .pre .0, ((c .before .before .before .before .pre .1 .0, (next-place (c .before .before .before .before .args .ledger .now) (c .before .before .before .before .pre .0) (c .before .before .before .before .args .f) (c .before .before .before .before .pre .1 .0) ((not-one (c .before .before .before .before .args .ledger .now) (c .before .before .before .before .pre .0) (c .before .before .before .before .args .f) (c .before .before .before .before .pre .1 .0) (c .before .before .before .before .pre .1 .1))) (c .before .of-guest .result) (c .before .of-guest .ensures .0))), (omega arith, omega (arith, (next-place (c .before .before .before .before .args .ledger .now) (c .before .before .before .before .pre .0) (c .before .before .before .before .args .f) (c .before .before .before .before .pre .1 .0) ((not-one (c .before .before .before .before .args .ledger .now) (c .before .before .before .before .pre .0) (c .before .before .before .before .args .f) (c .before .before .before .before .pre .1 .0) (c .before .before .before .before .pre .1 .1))) (c .before .of-guest .result) (c .before .of-guest .ensures .0)), c .before .before .before .before .pre .0 .few))))
+settle-requires c κs = (c .before .before .before .before .pre .0, ((c .before .before .before .before .pre .1 .0, (next-place _ (c .before .before .before .before .pre .0) _ (c .before .before .before .before .pre .1 .0) ((not-one _ (c .before .before .before .before .pre .0) (c .before .before .before .before .args .f) (c .before .before .before .before .pre .1 .0) (c .before .before .before .before .pre .1 .1))) (c .before .of-guest .ensures .0))), (omega arith, omega (arith, (next-place _ (c .before .before .before .before .pre .0) _ (c .before .before .before .before .pre .1 .0) ((not-one _ (c .before .before .before .before .pre .0) (c .before .before .before .before .args .f) (c .before .before .before .before .pre .1 .0) (c .before .before .before .before .pre .1 .1))) (c .before .of-guest .ensures .0)), c .before .before .before .before .pre .0 .few))))
 
 same-length : tie.Need-same-length
 same-length c = search needs
 
 returns : tie.Need-returns
-returns c = freed (c .before .before .before .before .before .before .before .args .ledger .now) (c .before .before .before .before .before .before .before .pre .0) (c .before .before .before .before .before .before .before .args .f) (c .before .before .before .before .before .before .before .pre .1 .0) ((not-one (c .before .before .before .before .before .before .before .args .ledger .now) (c .before .before .before .before .before .before .before .pre .0) (c .before .before .before .before .before .before .before .args .f) (c .before .before .before .before .before .before .before .pre .1 .0) (c .before .before .before .before .before .before .before .pre .1 .1))) (c .before .before .before .before .of-guest .result) _ (c .before .before .before .before .of-guest .ensures .0) (c .before .before .settle .ensures)
+returns c = freed _ (c .before .before .before .before .before .before .before .pre .0) _ (c .before .before .before .before .before .before .before .pre .1 .0) ((not-one _ (c .before .before .before .before .before .before .before .pre .0) (c .before .before .before .before .before .before .before .args .f) (c .before .before .before .before .before .before .before .pre .1 .0) (c .before .before .before .before .before .before .before .pre .1 .1))) (c .before .before .before .before .of-guest .ensures .0) (c .before .before .settle .ensures)
 
 pub put-back-spec : {M : Type 1} → statement M
 put-back-spec =

@@ -1,6 +1,6 @@
 -- Written by tools/prove from the file answers beside it: edit that, and not this.
 -- Its kind, and its place.
-use Rattle.free_set.specs.Start.{row-fits, filled-more}
+use Rattle.free_set.specs.Start.{filled-more}
 use borrow.Author.Needs.{needs}
 use Rattle.free_set.proofs.start.fill_row.Statement.{statement}
 use Rattle.free_set.proofs.start.fill_row.Tie as tie
@@ -24,8 +24,7 @@ same-length : tie.Need-same-length
 same-length c = search needs
 
 returns : tie.Need-returns
-returns c = filled-more (c .before .before .before .before .before .before .before .before .before .before .args .n) (c .before .before .before .before .before .before .before .before .before .before .args .k) (c .before .before .before .before .before .before .before .before .before .before .args .f) (c .before .before .before .before .before .before .before .before .before .before .args .ledger .now) (c .before .before .before .before .before .before .before .before .before .before .pre .0) (c .before .before .before .before .before .before .before .before .before .before .pre .1 .0) (c .before .before .before .before .before .before .before .before .before .before .pre .1 .1) (c .before .before .before .before .before .before .before .before .first-kind .result) _ _ (c .before .before .before .before .before .before .before .before .first-kind .ensures .0)
-    (c .before .before .before .before .before .before .store-of-frame .ensures) (c .before .before .place .ensures)
+returns c = filled-more (c .before .before .before .before .before .before .before .before .before .before .pre .0) (c .before .before .before .before .before .before .before .before .before .before .pre .1 .0) (c .before .before .before .before .before .before .before .before .before .before .pre .1 .1) (c .before .before .before .before .before .before .before .before .first-kind .ensures .0) (c .before .before .before .before .before .before .store-of-frame .ensures) (c .before .before .place .ensures)
 
 pub fill-row-spec : {M : Type 1} → statement M
 fill-row-spec =

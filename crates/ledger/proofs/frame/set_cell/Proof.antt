@@ -18,7 +18,7 @@ add-store-of-frame-2 : tie.Need-add-store-of-frame-2
 add-store-of-frame-2 c = omega (arith, (c .before .before .pre .1 .1 .1) .0, (c .before .before .pre .1 .1 .1) .1)
 
 store-of-frame-requires : tie.Need-store-of-frame-requires
-store-of-frame-requires c κs = (omega (arith, (guest-low (c .before .before .args .g) (c .before .before .pre .1 .1 .0) .1)), omega (arith, (c .before .before .pre .1 .1 .1) .0, (c .before .before .pre .1 .1 .1) .1), row-low (c .before .before .args .ledger .now) (c .before .before .pre .0) (c .before .before .args .f) (c .before .before .pre .1 .0))
+store-of-frame-requires c κs = (omega (arith, (guest-low (c .before .before .args .g) (c .before .before .pre .1 .1 .0) .1)), omega (arith, (c .before .before .pre .1 .1 .1) .0, (c .before .before .pre .1 .1 .1) .1), row-low _ (c .before .before .pre .0) _ (c .before .before .pre .1 .0))
 
 same-length : tie.Need-same-length
 same-length c = search needs

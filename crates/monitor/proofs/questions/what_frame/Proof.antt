@@ -24,7 +24,7 @@ owner-requires c κs = (c .before .before .before .before .before .pre .stock, (
 
 returns-2 : tie.Need-returns-2
 unfolding by-number
-returns-2 c = frame-here (c .before .before .before .before .before .before .before .args .ram .now) (c .before .before .before .before .before .before .before .args .ledger .now) (c .before .before .before .before .before .before .before .args .f) (c .before .before .kind .result) (c .before .owner .result) Monitor ((omega (arith, c .before .before .before .before .size .ensures .0, c .before .before .before .if1 .left))) (c .before .before .kind .ensures) (c .before .owner .ensures) (simp (
+returns-2 c = frame-here _ _ _ _ _ Monitor ((omega (arith, c .before .before .before .before .size .ensures .0, c .before .before .before .if1 .left))) (c .before .before .kind .ensures) (c .before .owner .ensures) (simp (
   lt-ltb _ _ (c .before .before .before .if1 .left),
   lt-leb _ _ (c .before .before .before .if1 .left),
   eq-eqb _ _ (c .if2 .taken),
@@ -32,7 +32,7 @@ returns-2 c = frame-here (c .before .before .before .before .before .before .bef
 
 returns-3 : tie.Need-returns-3
 unfolding by-number
-returns-3 c = frame-here (c .before .before .before .before .before .before .before .before .args .ram .now) (c .before .before .before .before .before .before .before .before .args .ledger .now) (c .before .before .before .before .before .before .before .before .args .f) (c .before .before .before .kind .result) (c .before .before .owner .result) Free ((omega (arith, c .before .before .before .before .before .size .ensures .0, c .before .before .before .before .if1 .left))) (c .before .before .before .kind .ensures) (c .before .before .owner .ensures) (simp (
+returns-3 c = frame-here _ _ _ _ _ Free ((omega (arith, c .before .before .before .before .before .size .ensures .0, c .before .before .before .before .if1 .left))) (c .before .before .before .kind .ensures) (c .before .before .owner .ensures) (simp (
   lt-ltb _ _ (c .before .before .before .before .if1 .left),
   lt-leb _ _ (c .before .before .before .before .if1 .left),
   ne-eqb _ _ (c .before .if2 .left),
@@ -41,7 +41,7 @@ returns-3 c = frame-here (c .before .before .before .before .before .before .bef
 
 returns-4 : tie.Need-returns-4
 unfolding by-number
-returns-4 c = frame-here (c .before .before .before .before .before .before .before .before .before .args .ram .now) (c .before .before .before .before .before .before .before .before .before .args .ledger .now) (c .before .before .before .before .before .before .before .before .before .args .f) (c .before .before .before .before .kind .result) (c .before .before .before .owner .result) (Table (c .before .before .before .owner .result)) ((omega (arith, c .before .before .before .before .before .before .size .ensures .0, c .before .before .before .before .before .if1 .left))) (c .before .before .before .before .kind .ensures) (c .before .before .before .owner .ensures) (simp (
+returns-4 c = frame-here _ _ _ _ _ (Table (c .before .before .before .owner .result)) ((omega (arith, c .before .before .before .before .before .before .size .ensures .0, c .before .before .before .before .before .if1 .left))) (c .before .before .before .before .kind .ensures) (c .before .before .before .owner .ensures) (simp (
   lt-ltb _ _ (c .before .before .before .before .before .if1 .left),
   lt-leb _ _ (c .before .before .before .before .before .if1 .left),
   ne-eqb _ _ (c .before .before .if2 .left),
@@ -54,7 +54,7 @@ uses-requires c κs = (c .before .before .before .before .before .before .before
 
 returns-5 : tie.Need-returns-5
 unfolding by-number
-returns-5 c = frame-here (c .before .before .before .before .before .before .before .before .before .before .before .args .ram .now) (c .before .before .before .before .before .before .before .before .before .before .before .args .ledger .now) (c .before .before .before .before .before .before .before .before .before .before .before .args .f) (c .before .before .before .before .before .before .kind .result) (c .before .before .before .before .before .owner .result) (Page (c .before .before .before .before .before .owner .result) (c .uses .result .places)) ((omega (arith, c .before .before .before .before .before .before .before .before .size .ensures .0, c .before .before .before .before .before .before .before .if1 .left))) (c .before .before .before .before .before .before .kind .ensures) (c .before .before .before .before .before .owner .ensures) (simp (
+returns-5 c = frame-here _ _ _ _ _ (Page (c .before .before .before .before .before .owner .result) (c .uses .result .places)) ((omega (arith, c .before .before .before .before .before .before .before .before .size .ensures .0, c .before .before .before .before .before .before .before .if1 .left))) (c .before .before .before .before .before .before .kind .ensures) (c .before .before .before .before .before .owner .ensures) (simp (
   lt-ltb _ _ (c .before .before .before .before .before .before .before .if1 .left),
   lt-leb _ _ (c .before .before .before .before .before .before .before .if1 .left),
   ne-eqb _ _ (c .before .before .before .before .if2 .left),
@@ -66,7 +66,7 @@ returns-5 c = frame-here (c .before .before .before .before .before .before .bef
 
 returns-6 : tie.Need-returns-6
 unfolding by-number
-returns-6 c = frame-here (c .before .before .before .before .before .before .before .before .before .before .args .ram .now) (c .before .before .before .before .before .before .before .before .before .before .args .ledger .now) (c .before .before .before .before .before .before .before .before .before .before .args .f) (c .before .before .before .before .before .kind .result) (c .before .before .before .before .owner .result) (Draining (c .before .before .before .before .owner .result)) ((omega (arith, c .before .before .before .before .before .before .before .size .ensures .0, c .before .before .before .before .before .before .if1 .left))) (c .before .before .before .before .before .kind .ensures) (c .before .before .before .before .owner .ensures) (simp (
+returns-6 c = frame-here _ _ _ _ _ (Draining (c .before .before .before .before .owner .result)) ((omega (arith, c .before .before .before .before .before .before .before .size .ensures .0, c .before .before .before .before .before .before .if1 .left))) (c .before .before .before .before .before .kind .ensures) (c .before .before .before .before .owner .ensures) (simp (
   lt-ltb _ _ (c .before .before .before .before .before .before .if1 .left),
   lt-leb _ _ (c .before .before .before .before .before .before .if1 .left),
   ne-eqb _ _ (c .before .before .before .if2 .left),
