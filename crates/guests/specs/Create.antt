@@ -18,7 +18,7 @@ use Rattle.ledger.specs.Stock.{Changed, Taken}
 use Rattle.ledger.specs.Laws.{guest-low}
 use Rattle.ledger.specs.Words.{state-words}
 use Rattle.ledger.specs.Sound.{Sound, free-of, free-is, chosen}
-use Rattle.operation.specs.Answers.{Operation, Done, passed, good-done}
+use Rattle.operation.specs.Answers.{Operation, Done, through, good-done}
 
 abbrev pub creating : (g : ℕ) → Operation
 creating g s pick = create s g pick
@@ -29,20 +29,20 @@ module _ {m l : List ℕ} (ok : Sound m l) (g : ℕ) (h : refusal (create (state
 
   is-one : is-guest g ≡ true
   unfolding create
-  is-one = passed (is-guest g) 1 _ (omega arith) h .0
+  is-one = through (is-guest g) 1 _ (omega arith) h .0
 
   pub create-guest : g < 9
   create-guest = guest-low g is-one .1
 
   rest-2 : refusal (check (not (exists-of l g) && not (dirty-of l g)) 2 (check (leb 1 (free-frames (state-of m l))) 3 (done after))) ≡ 0
   unfolding create state-in
-  rest-2 = passed (is-guest g) 1 _ (omega arith) h .1
+  rest-2 = through (is-guest g) 1 _ (omega arith) h .1
 
   absent : (not (exists-of l g) && not (dirty-of l g)) ≡ true
-  absent = passed (not (exists-of l g) && not (dirty-of l g)) 2 _ (omega arith) rest-2 .0
+  absent = through (not (exists-of l g) && not (dirty-of l g)) 2 _ (omega arith) rest-2 .0
 
   enough : leb 1 (free-frames (state-of m l)) ≡ true
-  enough = passed (leb 1 (free-frames (state-of m l))) 3 _ (omega arith) (passed (not (exists-of l g) && not (dirty-of l g)) 2 _ (omega arith) rest-2 .1) .0
+  enough = through (leb 1 (free-frames (state-of m l))) 3 _ (omega arith) (through (not (exists-of l g) && not (dirty-of l g)) 2 _ (omega arith) rest-2 .1) .0
 
   pub create-free : 0 < free-of l
   create-free = let a = leb-true 1 (free-frames (state-of m l)) enough in let b = free-is l (ok .stock) m in omega arith

@@ -17,7 +17,7 @@ use Rattle.ledger.specs.Fields.{remade, with-existence, with-dirt}
 use Rattle.ledger.specs.Stock.{Changed}
 use Rattle.ledger.specs.Laws.{guest-low, upd-self}
 use Rattle.ledger.specs.Sound.{Sound, guest-there}
-use Rattle.operation.specs.Answers.{Operation, Done, passed, good-done}
+use Rattle.operation.specs.Answers.{Operation, Done, through, good-done}
 use Rattle.guests.specs.Upto.{upto, at-all, with-rows, without, upto-size}
 
 abbrev pub destroying : (g : ℕ) → Operation
@@ -58,7 +58,7 @@ module _ (m l : List ℕ) (g f : ℕ) where
 module _ {m l : List ℕ} (ok : Sound m l) (g : ℕ) (h : refusal (destroy (state-of m l) g) ≡ 0) where
   exists-here : exists-of l g ≡ true
   unfolding destroy state-in
-  exists-here = passed (exists-of l g) 5 _ (omega arith) h .0
+  exists-here = through (exists-of l g) 5 _ (omega arith) h .0
 
   pub destroy-guest : is-guest g ≡ true
   destroy-guest = guest-there m l ok g exists-here
@@ -68,7 +68,7 @@ module _ {m l : List ℕ} (ok : Sound m l) (g : ℕ) (h : refusal (destroy (stat
 
   alone : all (size-of l) (unshared (state-of m l) g) ≡ true
   unfolding destroy state-in
-  alone = passed (all (size-of l) (unshared (state-of m l) g)) 13 _ (omega arith) (passed (exists-of l g) 5 _ (omega arith) h .1) .0
+  alone = through (all (size-of l) (unshared (state-of m l) g)) 13 _ (omega arith) (through (exists-of l g) 5 _ (omega arith) h .1) .0
 
   destroy-is : destroy (state-of m l) g ≡ done (without-guest (state-of m l) g)
   unfolding destroy check state-in

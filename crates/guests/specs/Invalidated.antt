@@ -15,7 +15,7 @@ use Rattle.ledger.specs.Fields.{remade, with-dirt}
 use Rattle.ledger.specs.Stock.{Changed}
 use Rattle.ledger.specs.Laws.{guest-low}
 use Rattle.ledger.specs.Sound.{Sound}
-use Rattle.operation.specs.Answers.{Operation, Done, passed, core-done}
+use Rattle.operation.specs.Answers.{Operation, Done, through, core-done}
 use Rattle.guests.specs.Upto.{upto, at-all, with-rows, same, upto-size}
 
 abbrev pub invalidating : (g : ℕ) → Operation
@@ -24,7 +24,7 @@ invalidating g s pick = invalidated s g
 module _ {m l : List ℕ} (ok : Sound m l) (g : ℕ) (h : refusal (invalidated (state-of m l) g) ≡ 0) where
   is-one : is-guest g ≡ true
   unfolding invalidated
-  is-one = passed (is-guest g) 1 _ (omega arith) h .0
+  is-one = through (is-guest g) 1 _ (omega arith) h .0
 
   pub invalidated-guest : g < 9
   invalidated-guest = guest-low g is-one .1

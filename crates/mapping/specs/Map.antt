@@ -27,7 +27,7 @@ use Rattle.ledger.specs.Words.{state-words}
 use Rattle.ledger.specs.Sound.{Sound, free-of, free-is, chosen, count-fits}
 use Rattle.descent.specs.declared.Plan.{Plan}
 use Rattle.descent.specs.declared.Plan.the-variants.{Stop, Go}
-use Rattle.operation.specs.Answers.{Operation, Done, passed}
+use Rattle.operation.specs.Answers.{Operation, Done, through}
 use Rattle.descent.specs.Way.{Ended, ended-above, ended-missing, last-serves, last-leaf, last-empty}
 use Rattle.model.specs.Machine.{Map, answer}
 use Rattle.model.specs.Invariant.Effects.{rows}
@@ -111,12 +111,12 @@ stuck true true true true true true s o ne = absurd (ne refl)
 module _ (s : State) (f g a r : ℕ) where
   granted : refusal (asked s f g a r (done s)) ≡ 0 → Granted s f g a r
   granted h =
-      let p1 = passed (s .exists g) 5 _ (omega arith) h in
-      let p2 = passed (not (s .dirty g)) 14 _ (omega arith) (p1 .1) in
-      let p3 = passed (page-address a) 7 _ (omega arith) (p2 .1) in
-      let p4 = passed (is-rights r) 8 _ (omega arith) (p3 .1) in
-      let p5 = passed (ltb f (s .size)) 4 _ (omega arith) (p4 .1) in
-      let p6 = passed (may-map s g f r) 9 (done s) (omega arith) (p5 .1) in
+      let p1 = through (s .exists g) 5 _ (omega arith) h in
+      let p2 = through (not (s .dirty g)) 14 _ (omega arith) (p1 .1) in
+      let p3 = through (page-address a) 7 _ (omega arith) (p2 .1) in
+      let p4 = through (is-rights r) 8 _ (omega arith) (p3 .1) in
+      let p5 = through (ltb f (s .size)) 4 _ (omega arith) (p4 .1) in
+      let p6 = through (may-map s g f r) 9 (done s) (omega arith) (p5 .1) in
       record { exists = p1 .0; clean = p2 .0; address = p3 .0; rights = p4 .0; frame = p5 .0; may = p6 .0 }
 
   module _ (pick : ℕ → ℕ) where

@@ -14,7 +14,7 @@ use Rattle.model.specs.Invariant.Holds.{started-core}
 use Rattle.ledger.specs.Layout.{words-for, most-frames, size-of, word-of, state-in}
 use Rattle.free_set.specs.Start.{LaidOut}
 use Rattle.ledger.specs.Sound.{Sound}
-use Rattle.operation.specs.Answers.{Outcome, refused-so, stops, goes-on, passed, and-left, and-right, and-both}
+use Rattle.operation.specs.Answers.{Outcome, refused-so, stops, goes-on, through, and-left, and-right, and-both}
 
 -- the slices have the lengths that n asks for
 unfoldable pub slices-fit : (n : ℕ) (ram ledger : List ℕ) → Bool
@@ -84,7 +84,7 @@ module _ (n b k : ℕ) (m l : List ℕ) where
   module _ (h : refusal (setting-up n b k m l) ≡ 0) where
     all-fit : All ≡ true
     unfolding set-up
-    all-fit = passed All 4 _ (omega arith) h .0
+    all-fit = through All 4 _ (omega arith) h .0
 
     upto-E : (A && B && C && D && E) ≡ true
     upto-E = and-true (A && B && C && D && E) (ltb k n) all-fit .0

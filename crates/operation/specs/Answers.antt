@@ -64,11 +64,11 @@ pub goes-on : {r : ℕ} (b : Bool) (k : ℕ) (o : Out) → b ≡ true → r ≡ 
 unfolding check
 goes-on b k o e h = rw e h
 
--- a check that was passed
-pub passed : (b : Bool) (k : ℕ) (o : Out) → 0 < k → refusal (check b k o) ≡ 0 → (b ≡ true) × (refusal o ≡ 0)
+-- a check that was passed, and is out of the way
+pub through : (b : Bool) (k : ℕ) (o : Out) → 0 < k → refusal (check b k o) ≡ 0 → (b ≡ true) × (refusal o ≡ 0) × (check b k o ≡ o)
 unfolding check
-passed true k o h e = (refl, e)
-passed false k o h e = absurd (omega arith)
+through true k o h e = (refl, e, refl)
+through false k o h e = absurd (omega arith)
 
 -- Sound after it: model's invariant holds of what the operation makes
 core-sound : (m l m′ l′ : List ℕ) (o : Out) → Sound m l → Then Core o → o ≡ done (state-of m′ l′) → Stock l′ → length m′ ≡ length m → state-of m′ l′ .size ≡ state-of m l .size → Sound m′ l′

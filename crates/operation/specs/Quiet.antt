@@ -1,11 +1,10 @@
--- Operations that leave RAM alone: the checks taken off one by one, and one change of the ledger.
+-- Operations that leave RAM alone: what they have found, and one change of the ledger.
 use mathlib.Core.Path.{_≡_, refl, _∙_}
-use mathlib.Core.Bool.{Bool, true, false}
+use mathlib.Core.Bool.{true}
 use mathlib.Core.List.{List}
 use Prim.Native.Nat.{ℕ, _<_}
-use native.Mathlib.Omega.{arith}
 use Rattle.model.specs.State.{State, page, is-guest}
-use Rattle.model.specs.Operations.{Out, done, refusal, check}
+use Rattle.model.specs.Operations.{done}
 use Rattle.model.specs.Cache.{Caches}
 use Rattle.model.specs.Invariant.Core.{Kept}
 use Rattle.model.specs.Invariant.Answer.{Good}
@@ -13,12 +12,6 @@ use Rattle.ledger.specs.Layout.{size-of, kind-of, state-of}
 use Rattle.ledger.specs.Stock.{Changed}
 use Rattle.ledger.specs.Sound.{Sound}
 use Rattle.operation.specs.Answers.{Operation, out, Done, good-done}
-
--- a check that was passed, and is out of the way
-pub through : (b : Bool) (k : ℕ) (o : Out) → 0 < k → refusal (check b k o) ≡ 0 → (b ≡ true) × (refusal o ≡ 0) × (check b k o ≡ o)
-unfolding check
-through true k o h e = (refl, e, refl)
-through false k o h e = absurd (omega arith)
 
 -- what take, share and unshare have found when they refuse nothing: f is a page of g, and the guest c that they ask about is there
 pub record Owned (l : List ℕ) (f g c : ℕ) : Type 0 where

@@ -19,7 +19,7 @@ use Rattle.ledger.specs.Stock.{Changed, Taken}
 use Rattle.ledger.specs.Laws.{guest-low}
 use Rattle.ledger.specs.Words.{state-words}
 use Rattle.ledger.specs.Sound.{Sound, guest-there}
-use Rattle.operation.specs.Answers.{Operation, Done, passed, good-done}
+use Rattle.operation.specs.Answers.{Operation, Done, through, good-done}
 
 abbrev pub giving : (f g : ℕ) → Operation
 giving f g s pick = give s f g
@@ -30,27 +30,27 @@ module _ {m l : List ℕ} (ok : Sound m l) (f g : ℕ) (h : refusal (give (state
 
   exists-here : exists-of l g ≡ true
   unfolding give state-in
-  exists-here = passed (exists-of l g) 5 _ (omega arith) h .0
+  exists-here = through (exists-of l g) 5 _ (omega arith) h .0
 
   pub give-guest : g < 9
   give-guest = guest-low g (guest-there m l ok g exists-here) .1
 
   rest-4 : refusal (check (ltb f (size-of l)) 4 (check (is-free (kind-of l f)) 6 (done after))) ≡ 0
   unfolding give state-in
-  rest-4 = passed (exists-of l g) 5 _ (omega arith) h .1
+  rest-4 = through (exists-of l g) 5 _ (omega arith) h .1
 
   pub give-low : f < size-of l
-  give-low = ltb-true f (size-of l) (passed (ltb f (size-of l)) 4 _ (omega arith) rest-4 .0)
+  give-low = ltb-true f (size-of l) (through (ltb f (size-of l)) 4 _ (omega arith) rest-4 .0)
 
   free-test : is-free (kind-of l f) ≡ true
-  free-test = passed (is-free (kind-of l f)) 6 _ (omega arith) (passed (ltb f (size-of l)) 4 _ (omega arith) rest-4 .1) .0
+  free-test = through (is-free (kind-of l f)) 6 _ (omega arith) (through (ltb f (size-of l)) 4 _ (omega arith) rest-4 .1) .0
 
   pub give-free : kind-of l f ≡ free
   give-free = free-is (kind-of l f) free-test
 
   give-is : give (state-of m l) f g ≡ done after
   unfolding give check state-in
-  give-is = rw (exists-here, passed (ltb f (size-of l)) 4 _ (omega arith) rest-4 .0, free-test)
+  give-is = rw (exists-here, through (ltb f (size-of l)) 4 _ (omega arith) rest-4 .0, free-test)
 
   -- the frame is taken, nobody shares it, and its words are 0
   pub give-end : (l₁ l′ m′ : List ℕ) → Taken f (page g) l l₁ → Changed (with-no-shares f) l₁ l′ → word-of m′ ≡ upd (word-of m) f zeros → length m′ ≡ length m → Done (giving f g) m l m′ l′

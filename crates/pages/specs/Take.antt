@@ -15,8 +15,8 @@ use Rattle.ledger.specs.Layout.{size-of, exists-of, dirty-of, kind-of, shared-o
 use Rattle.ledger.specs.Fields.{remade, with-kind, with-kind-by}
 use Rattle.ledger.specs.Stock.{Changed}
 use Rattle.ledger.specs.Sound.{Sound, guest-there}
-use Rattle.operation.specs.Answers.{Operation, Done}
-use Rattle.operation.specs.Quiet.{through, Owned, changed-so}
+use Rattle.operation.specs.Answers.{Operation, Done, through}
+use Rattle.operation.specs.Quiet.{Owned, changed-so}
 
 abbrev pub taking : (f g : ℕ) → Operation
 taking f g s pick = take s f g

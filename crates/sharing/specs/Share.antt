@@ -20,8 +20,8 @@ use Rattle.ledger.specs.Fields.{remade, with-share}
 use Rattle.ledger.specs.Laws.{upd-self}
 use Rattle.ledger.specs.Stock.{Changed}
 use Rattle.ledger.specs.Sound.{Sound, guest-there}
-use Rattle.operation.specs.Answers.{Operation, out, Done}
-use Rattle.operation.specs.Quiet.{through, Owned, changed-so}
+use Rattle.operation.specs.Answers.{Operation, out, Done, through}
+use Rattle.operation.specs.Quiet.{Owned, changed-so}
 
 abbrev pub sharing : (g f h w : ℕ) → Operation
 sharing g f h w s pick = share s g f h w
