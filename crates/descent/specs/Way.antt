@@ -93,11 +93,11 @@ module _ (s : State) (c : Core s) (g v : ℕ) where
     last-empty x q y = ap (λ (o : Option Page). is-some o) (translate-empty s g v t last-leaf (reads-empty s t (v % 512) (sym q ∙ y)))
 
 -- the same, of the two slices
-module _ (m l : List ℕ) (ok : Sound m l) (g v : ℕ) where
-  pub way-root : (t : ℕ) → t ≡ root-of l g → exists-of l g ≡ true → v < pages → Reached (state-of m l) g v 3 t
-  way-root t e q k = subst (λ (x : ℕ). Reached (state-of m l) g v 3 x) (sym e) (unfold state-in in reached-root (state-of m l) (ok .core) g v q k)
+module _ {m l : List ℕ} (ok : Sound m l) where
+  pub way-root : (g v t : ℕ) → t ≡ root-of l g → exists-of l g ≡ true → v < pages → Reached (state-of m l) g v 3 t
+  way-root g v t e q k = subst (λ (x : ℕ). Reached (state-of m l) g v 3 x) (sym e) (unfold state-in in reached-root (state-of m l) (ok .core) g v q k)
 
-  module _ (h t : ℕ) (a : Reached (state-of m l) g v h t) where
+  module _ {g v h t : ℕ} (a : Reached (state-of m l) g v h t) where
     pub way-low : t < size-of l
     way-low = let k : t < state-of m l .size = reached-low (state-of m l) (ok .core) g v h t a in unfold state-in in k
 

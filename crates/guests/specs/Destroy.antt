@@ -1,6 +1,6 @@
 -- destroy: the test of all frames, and the ledger after it.
 use mathlib.Core.Path.{_≡_, refl, sym, ap, _∙_}
-use mathlib.Core.Bool.{Bool, true, false, not, _&&_, _||_, true≢false}
+use mathlib.Core.Bool.{Bool, true, false, true≢false}
 use mathlib.Core.Logic.{inl, inr}
 use mathlib.Core.List.{List}
 use Prim.Native.Nat.{ℕ, _+_, _<_}
@@ -17,7 +17,7 @@ use Rattle.ledger.specs.Fields.{remade, with-existence, with-dirt}
 use Rattle.ledger.specs.Stock.{Changed}
 use Rattle.ledger.specs.Laws.{guest-low, upd-self}
 use Rattle.ledger.specs.Sound.{Sound, guest-there}
-use Rattle.operation.specs.Answers.{Operation, Done, passed, still-sound}
+use Rattle.operation.specs.Answers.{Operation, Done, through, good-done}
 use Rattle.guests.specs.Upto.{upto, at-all, with-rows, without, upto-size}
 
 abbrev pub destroying : (g : ℕ) → Operation
@@ -55,10 +55,10 @@ module _ (m l : List ℕ) (g f : ℕ) where
       unfolding unshared state-in
       of-it q = rw (p, e, q)
 
-module _ (m l : List ℕ) (ok : Sound m l) (g : ℕ) (h : refusal (destroy (state-of m l) g) ≡ 0) where
+module _ {m l : List ℕ} (ok : Sound m l) (g : ℕ) (h : refusal (destroy (state-of m l) g) ≡ 0) where
   exists-here : exists-of l g ≡ true
   unfolding destroy state-in
-  exists-here = passed (exists-of l g) 5 _ (omega arith) h .0
+  exists-here = through (exists-of l g) 5 _ (omega arith) h .0
 
   pub destroy-guest : is-guest g ≡ true
   destroy-guest = guest-there m l ok g exists-here
@@ -68,7 +68,7 @@ module _ (m l : List ℕ) (ok : Sound m l) (g : ℕ) (h : refusal (destroy (stat
 
   alone : all (size-of l) (unshared (state-of m l) g) ≡ true
   unfolding destroy state-in
-  alone = passed (all (size-of l) (unshared (state-of m l) g)) 13 _ (omega arith) (passed (exists-of l g) 5 _ (omega arith) h .1) .0
+  alone = through (all (size-of l) (unshared (state-of m l) g)) 13 _ (omega arith) (through (exists-of l g) 5 _ (omega arith) h .1) .0
 
   destroy-is : destroy (state-of m l) g ≡ done (without-guest (state-of m l) g)
   unfolding destroy check state-in
@@ -76,10 +76,8 @@ module _ (m l : List ℕ) (ok : Sound m l) (g : ℕ) (h : refusal (destroy (stat
 
   -- every frame drains, without g's counts; then g is no more, and dirty
   pub destroy-end : (l₁ l₂ l′ : List ℕ) → Changed (upto (drained g) (without g) (size-of l)) l l₁ → Changed (with-existence g false) l₁ l₂ → Changed (with-dirt g true) l₂ l′ → Done (destroying g) m l m l′
-  destroy-end l₁ l₂ l′ c d e = record {
-    sound = still-sound m l m l′ (destroy (state-of m l) g) ok (λ k q. destroy-good (state-of m l) (ok .core) k q g) made (e .stock) refl (unfold without-guest in ap (λ (x : State). x .size) state);
-    made = made;
-  }
+  destroy-end l₁ l₂ l′ c d e =
+      good-done (destroying g) (without-guest (state-of m l) g) ok (λ k q. destroy-good (state-of m l) (ok .core) k q g) destroy-is (e .stock) refl (unfold without-guest in refl) state
     where
       none : without g zeros ≡ zeros
       none = unfold zeros in upd-self zeros g
@@ -91,6 +89,3 @@ module _ (m l : List ℕ) (ok : Sound m l) (g : ℕ) (h : refusal (destroy (stat
       state =
           e .state m ∙ ap (with-dirt g true) (d .state m)
           ∙ ap (λ (x : State). with-dirt g true (with-existence g false x)) (c .state m ∙ upto-size (drained g) (without g) m l (ok .stock) (unfold drained in refl) none) ∙ last
-
-      made : destroy (state-of m l) g ≡ done (state-of m l′)
-      made = destroy-is ∙ ap done (sym state)

@@ -2,20 +2,20 @@
 -- invalidated and destroy are such loops; when all are done, the frames past the last are as if they were done too.
 use mathlib.Core.Path.{_≡_, refl, sym, ap, _∙_, fun-ext}
 use mathlib.Core.Bool.{Bool, true, false, _&&_, cond}
-use mathlib.Core.Logic.{_⊎_, inl, inr}
+use mathlib.Core.Logic.{inl, inr}
 use mathlib.Core.List.{List}
 use Prim.Native.Nat.{ℕ, _+_, _*_, _<_, _≤_}
 use native.Mathlib.Omega.{arith}
-use lib.Dec.{eqb, ltb}
-use lib.ListN.{length, getD, List·getD-eq-default}
+use lib.Dec.{ltb}
+use lib.ListN.{getD, List·getD-eq-default}
 use borrow.Author.Tests.{lt-ltb, le-ltb}
 use Rattle.model.specs.Base.{bool?, eq?, lt?, upd, upd-at, upd-other, upd2}
 use Rattle.model.specs.State.{State, Kind, monitor, is-guest}
 use Rattle.model.specs.Changes.{zeros, drained, released}
 use Rattle.ledger.specs.Cells.{cell}
-use Rattle.ledger.specs.Layout.{most-frames, frames, guest-rows, kind-in, per-guest, count-part, size-of, kind-of, count-of, state-in, state-of}
-use Rattle.ledger.specs.Fields.{remade, with-kind, with-drained, with-released, with-count}
-use Rattle.ledger.specs.Stock.{Stock, Changed}
+use Rattle.ledger.specs.Layout.{most-frames, frames, kind-in, per-guest, count-part, size-of, kind-of, count-of, state-in, state-of}
+use Rattle.ledger.specs.Fields.{remade, with-kind, with-kind-by, with-count}
+use Rattle.ledger.specs.Stock.{Stock, Changed, changed-as, changed-then}
 use Rattle.ledger.specs.Laws.{upd-self}
 use Rattle.operation.specs.Answers.{still-low}
 
@@ -109,14 +109,14 @@ same c = c
 abbrev pub without : (g : ℕ) → (ℕ → ℕ) → ℕ → ℕ
 without g c = upd c g 0
 
-pub release-turn : {l l′ : List ℕ} (f g : ℕ) → Changed (with-released f g) l l′ → Changed (at-frame (released g) same f) l l′
-release-turn {l} f g c = record { stock = c .stock; state = λ ram. c .state ram ∙ turn (state-of ram l) }
+pub release-turn : {l l′ : List ℕ} (f g : ℕ) → Changed (with-kind-by f (released g)) l l′ → Changed (at-frame (released g) same f) l l′
+release-turn {l} f g c = changed-as c (λ ram. turn (state-of ram l))
   where
-    turn : (s : State) → with-released f g s ≡ at-frame (released g) same f s
-    turn s = unfold with-released with-kind at-frame with-rows in same-rows s refl (sym (upd-self (s .count) f))
+    turn : (s : State) → with-kind-by f (released g) s ≡ at-frame (released g) same f s
+    turn s = unfold with-kind-by with-kind at-frame with-rows in same-rows s refl (sym (upd-self (s .count) f))
 
-pub drain-turn : {l l₁ l′ : List ℕ} (f g : ℕ) → Changed (with-drained f g) l l₁ → Changed (with-count f g 0) l₁ l′ → Changed (at-frame (drained g) (without g) f) l l′
-drain-turn {l} f g c d = record { stock = d .stock; state = λ ram. d .state ram ∙ ap (with-count f g 0) (c .state ram) ∙ turn (state-of ram l) }
+pub drain-turn : {l l₁ l′ : List ℕ} (f g : ℕ) → Changed (with-kind-by f (drained g)) l l₁ → Changed (with-count f g 0) l₁ l′ → Changed (at-frame (drained g) (without g) f) l l′
+drain-turn {l} f g c d = changed-as (changed-then c d) (λ ram. turn (state-of ram l))
   where
-    turn : (s : State) → with-count f g 0 (with-drained f g s) ≡ at-frame (drained g) (without g) f s
-    turn s = unfold with-count with-drained with-kind upd2 at-frame with-rows remade in refl
+    turn : (s : State) → with-count f g 0 (with-kind-by f (drained g) s) ≡ at-frame (drained g) (without g) f s
+    turn s = unfold with-count with-kind-by with-kind upd2 at-frame with-rows remade in refl

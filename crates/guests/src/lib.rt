@@ -15,7 +15,6 @@ ghost use Rattle.guests.specs.Upto.{upto, same, without};
 ghost use Rattle.guests.specs.Invalidated.{invalidating};
 ghost use Rattle.guests.specs.Destroy.{destroying};
 use ledger::frame;
-use ledger::free_set;
 use ledger::guest;
 use ledger::header;
 use ledger::words;
@@ -131,7 +130,7 @@ fn unshared(ram: &[u8], ledger: &[u32], g: u64, f: u64) -> bool
     if !frame::is_page_of(ledger, f, g) {
         return true;
     }
-    frame::unshared(ledger, f)
+    frame::uses(ledger, f).shares == 0
 }
 
 fn all_unshared(ram: &[u8], ledger: &[u32], g: u64) -> bool

@@ -1,16 +1,16 @@
 -- The ledger's words in rows of 16, and what a store does to them.
 -- A table of rows begins at a word o and has m rows; a cell is named by its column, then its row, so that a store leaves other columns alone by computation.
-use mathlib.Core.Path.{_≡_, refl, sym, ap, _∙_, fun-ext}
+use mathlib.Core.Path.{_≡_, refl, fun-ext}
 use mathlib.Core.Bool.{Bool, true, false, _&&_, cond}
 use mathlib.Core.Logic.{_⊎_, inl, inr}
 use mathlib.Core.List.{List}
-use Prim.Native.Nat.{ℕ, zero, suc, _+_, _*_, _-_, _≤_, _<_}
+use Prim.Native.Nat.{ℕ, _+_, _*_, _-_, _≤_, _<_}
 use native.Mathlib.Omega.{arith}
-use lib.Dec.{eqb, ltb, leb}
+use lib.Dec.{eqb, ltb}
 use lib.ListN.{length, getD, set, length-set}
 use lib.Seq.{getD-set-same, getD-set-other}
-use borrow.Author.Tests.{eq-eqb, ne-eqb, lt-ltb, le-ltb}
-use Rattle.model.specs.Base.{eq?, lt?, upd, upd-at, upd-other, upd2, upd2-at, upd2-other}
+use borrow.Author.Tests.{lt-ltb, le-ltb}
+use Rattle.model.specs.Base.{eq?, lt?, upd, upd-other, upd2, upd2-at, upd2-other}
 
 unfoldable pub cell : (o m : ℕ) → List ℕ → (column row : ℕ) → ℕ
 cell o m l j r = cond (ltb j 16 && ltb r m) (getD l (o + 16 * r + j) 0) 0
@@ -72,10 +72,6 @@ cell-apart o m o′ l j r v hj far = fun-ext (λ a. fun-ext (λ b. go a b far))
 pub column-other : {A : Type 0} (F : ℕ → ℕ → A) (k r : ℕ) (v : A) (j : ℕ) → (j ≡ k → ⊥) → upd2 F k r v j ≡ F j
 unfolding upd2
 column-other F k r v j ne = upd-other F k (upd (F k) r v) j ne
-
-pub column-same : {A : Type 0} (F : ℕ → ℕ → A) (k r : ℕ) (v : A) → upd2 F k r v k ≡ upd (F k) r v
-unfolding upd2
-column-same F k r v = upd-at F k (upd (F k) r v) k refl
 
 -- a function of what is stored
 pub upd-map : {A B : Type 0} (φ : A → B) (f : ℕ → A) (k : ℕ) (v : A) → (λ x. φ (upd f k v x)) ≡ upd (λ x. φ (f x)) k (φ v)

@@ -3,7 +3,7 @@ use mathlib.Core.Bool.{Bool}
 use Prim.Native.Nat.{ℕ}
 use Rattle.model.specs.Base.{upd, upd2}
 use Rattle.model.specs.State.{State, Kind}
-use Rattle.model.specs.Changes.{zeros, drained, released}
+use Rattle.model.specs.Changes.{zeros}
 
 unfoldable pub remade : State → (kind : ℕ → Kind) (shared count : ℕ → ℕ → ℕ) (exists : ℕ → Bool) (root : ℕ → ℕ) (dirty : ℕ → Bool) (word : ℕ → ℕ → ℕ) → State
 remade s k sh c e r d w = record {
@@ -21,12 +21,13 @@ remade s k sh c e r d w = record {
 unfoldable pub with-kind : (f : ℕ) → Kind → State → State
 with-kind f k s = remade s (upd (s .kind) f k) (s .shared) (s .count) (s .exists) (s .root) (s .dirty) (s .word)
 
--- what frame f is, when guest g is destroyed; when its invalidation is reported
-unfoldable pub with-drained : (f g : ℕ) → State → State
-with-drained f g s = with-kind f (drained g (s .kind f)) s
+-- what frame f is turned by φ: drained for a guest, or released
+unfoldable pub with-kind-by : (f : ℕ) → (Kind → Kind) → State → State
+with-kind-by f φ s = with-kind f (φ (s .kind f)) s
 
-unfoldable pub with-released : (f g : ℕ) → State → State
-with-released f g s = with-kind f (released g (s .kind f)) s
+-- both numbers of frame f's cell for guest g
+unfoldable pub with-cell : (f g how c : ℕ) → State → State
+with-cell f g how c s = remade s (s .kind) (upd2 (s .shared) f g how) (upd2 (s .count) f g c) (s .exists) (s .root) (s .dirty) (s .word)
 
 unfoldable pub with-share : (f g how : ℕ) → State → State
 with-share f g how s = remade s (s .kind) (upd2 (s .shared) f g how) (s .count) (s .exists) (s .root) (s .dirty) (s .word)

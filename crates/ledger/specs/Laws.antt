@@ -1,20 +1,18 @@
 -- What each store does to the state: one equation for each field of the ledger.
 use mathlib.Core.Path.{_≡_, refl, sym, ap, _∙_, fun-ext}
-use mathlib.Core.Bool.{Bool, true, false, true≢false, _&&_, cond}
+use mathlib.Core.Bool.{Bool, true, false, true≢false, cond}
 use mathlib.Core.Logic.{_⊎_, inl, inr}
-use mathlib.Core.List.{List}
 use Prim.Native.Nat.{ℕ, zero, suc, _+_, _*_, _-_, _≤_, _<_, _/_, _%_}
 use native.Mathlib.Omega.{arith}
 use native.Mathlib.Numerals.{add-one}
 use lib.Dec.{eqb, ltb, leb}
-use lib.ListN.{length}
-use borrow.Author.Tests.{eq-eqb, ne-eqb, lt-ltb, le-ltb, le-leb, ltb-true, leb-true}
-use Rattle.model.specs.Base.{bool?, eq?, lt?, sum, sum-cong, sum-none, sum-zero, and-true, upd, upd-at, upd-same, upd-other, upd2, upd2-at, upd2-other}
-use Rattle.model.specs.State.{State, Kind, monitor, guests, is-guest, total}
+use borrow.Author.Tests.{lt-ltb, le-leb, ltb-true, leb-true}
+use Rattle.model.specs.Base.{bool?, eq?, lt?, sum, and-true, upd, upd-at, upd-other, upd2, upd2-at, upd2-other}
+use Rattle.model.specs.State.{State, monitor, guests, is-guest, total}
 use Rattle.model.specs.Changes.{zeros}
-use Rattle.ledger.specs.Cells.{store, column-other, column-same, upd-map}
-use Rattle.ledger.specs.Layout.{frames, guest-rows, words-for, most-frames, kind-at, size-in, first-in, kind-in, per-guest, share-part, count-part, exists-in, dirty-in, root-in, state-in}
-use Rattle.ledger.specs.Fields.{remade, with-kind, with-share, with-no-shares, with-count, with-existence, with-root-at, with-dirt}
+use Rattle.ledger.specs.Cells.{column-other, upd-map}
+use Rattle.ledger.specs.Layout.{kind-at, size-in, first-in, kind-in, per-guest, share-part, count-part, exists-in, dirty-in, root-in, state-in}
+use Rattle.ledger.specs.Fields.{remade, with-kind, with-cell, with-share, with-no-shares, with-count, with-existence, with-root-at, with-dirt}
 
 -- A guest's row.
 module _ (F G w : ℕ → ℕ → ℕ) (g v : ℕ) where
@@ -87,6 +85,16 @@ per-guest-other part F j f v far = fun-ext (λ a. fun-ext (λ h. go a h far (is-
     go a h (inl d) true q = let l = guest-low h q in rw (upd2-other F j f v (3 + h) a (λ (x : 3 + h ≡ j) y. omega arith))
     go a h (inr d) true q = let l = guest-low h q in rw (upd2-other F j f v (3 + h) a (λ (x : 3 + h ≡ j) y. omega arith))
 
+-- the guests' cells are as they were
+pub record Aside (F F′ : ℕ → ℕ → ℕ) : Type 0 where
+  pub cells : (part : ℕ → ℕ) → per-guest part F′ ≡ per-guest part F
+
+pub aside-none : {F : ℕ → ℕ → ℕ} → Aside F F
+aside-none = record { cells = λ part. refl }
+
+pub aside : {F F′ : ℕ → ℕ → ℕ} → Aside F F′ → (j f v : ℕ) → (j < 4) ⊎ (11 < j) → Aside F (upd2 F′ j f v)
+aside {F} {F′} h j f v far = record { cells = λ part. per-guest-other part F′ j f v far ∙ h .cells part }
+
 -- a cell that is stored as it was
 pub upd-self : {A : Type 0} (f : ℕ → A) (k : ℕ) → upd f k (f k) ≡ f
 upd-self f k = fun-ext (λ x. elim (eq? x k) [ inl e ↦ upd-at f k (f k) x e ∙ ap f (sym e) | inr e ↦ upd-other f k (f k) x e ])
@@ -100,6 +108,11 @@ pub kind-keep : (F F′ G : ℕ → ℕ → ℕ) → F′ 0 ≡ F 0 → F′ 1 �
 unfolding kind-in
 kind-keep F F′ G a b c d = fun-ext (λ f. rw (a, b, c, d))
 
+-- the two numbers of the cell
+pub cell-is : (F : ℕ → ℕ → ℕ) (f g : ℕ) → is-guest g ≡ true → {x : ℕ} → x ≡ F (3 + g) f → (x / 1073741824 ≡ per-guest share-part F f g) × (x % 1073741824 ≡ per-guest count-part F f g)
+unfolding per-guest share-part count-part
+cell-is F f g hg e = rw (hg, e) (refl, refl)
+
 module _ (F G w : ℕ → ℕ → ℕ) (f g : ℕ) (hg : is-guest g ≡ true) where
   off : (j : ℕ) → j < 4 → j ≡ 3 + g → ⊥
   off j l e = let a = guest-low g hg in omega arith
@@ -112,18 +125,14 @@ module _ (F G w : ℕ → ℕ → ℕ) (f g : ℕ) (hg : is-guest g ≡ true) wh
       (column-other F (3 + g) f v 2 (off 2 (omega arith)))
       (column-other F (3 + g) f v 3 (off 3 (omega arith)))
 
-  pub part-is : (part : ℕ → ℕ) → per-guest part F f g ≡ part (F (3 + g) f)
-  unfolding per-guest
-  part-is part = rw hg
-
-  pub state-share : (how v : ℕ) → v ≡ F (3 + g) f % 1073741824 + how * 1073741824 → state-in (upd2 F (3 + g) f v) G w ≡ with-share f g how (state-in F G w)
-  unfolding state-in with-share remade
-  state-share how v e = λ i. record {
+  pub state-cell : (how c v : ℕ) → c < 1073741824 → v ≡ how * 1073741824 + c → state-in (upd2 F (3 + g) f v) G w ≡ with-cell f g how c (state-in F G w)
+  unfolding state-in with-cell remade
+  state-cell how c v l e = λ i. record {
     size = size-in G;
     first = first-in G;
     kind = same-kinds v i;
     shared = (per-guest-same share-part F g f v hg ∙ ap (upd2 (per-guest share-part F) f g) share) i;
-    count = (per-guest-same count-part F g f v hg ∙ upd2-self (per-guest count-part F) f g (count-part v) (count ∙ sym (part-is count-part))) i;
+    count = (per-guest-same count-part F g f v hg ∙ ap (upd2 (per-guest count-part F) f g) count) i;
     exists = exists-in G;
     root = root-in G;
     dirty = dirty-in G;
@@ -133,91 +142,42 @@ module _ (F G w : ℕ → ℕ → ℕ) (f g : ℕ) (hg : is-guest g ≡ true) wh
       share : share-part v ≡ how
       share = unfold share-part in omega arith
 
-      count : count-part v ≡ count-part (F (3 + g) f)
+      count : count-part v ≡ c
       count = unfold count-part in omega arith
 
-  pub state-count : (c v : ℕ) → c < 1073741824 → v ≡ F (3 + g) f / 1073741824 * 1073741824 + c → state-in (upd2 F (3 + g) f v) G w ≡ with-count f g c (state-in F G w)
-  unfolding state-in with-count remade
-  state-count c v l e = λ i. record {
+-- one of its two numbers is stored as it was
+module _ (f g : ℕ) (s : State) where
+  pub share-alone : (how : ℕ) → with-cell f g how (s .count f g) s ≡ with-share f g how s
+  unfolding with-cell with-share
+  share-alone how = ap (λ (C : ℕ → ℕ → ℕ). remade s (s .kind) (upd2 (s .shared) f g how) C (s .exists) (s .root) (s .dirty) (s .word)) (upd2-self (s .count) f g (s .count f g) refl)
+
+  pub count-alone : (c : ℕ) → with-cell f g (s .shared f g) c s ≡ with-count f g c s
+  unfolding with-cell with-count
+  count-alone c = ap (λ (S : ℕ → ℕ → ℕ). remade s (s .kind) S (upd2 (s .count) f g c) (s .exists) (s .root) (s .dirty) (s .word)) (upd2-self (s .shared) f g (s .shared f g) refl)
+
+-- What a frame is: its four cells, whatever is stored elsewhere beside the guests'.
+module _ (F F′ G w : ℕ → ℕ → ℕ) (f k g h p : ℕ) (hf : f < size-in G) (e0 : F′ 0 ≡ upd (F 0) f k) (e1 : F′ 1 ≡ upd (F 1) f g) (e2 : F′ 2 ≡ upd (F 2) f h) (e3 : F′ 3 ≡ upd (F 3) f p) where
+  kind-changed : kind-in F′ G ≡ upd (kind-in F G) f (kind-at k g h p)
+  unfolding kind-in
+  kind-changed = fun-ext (λ x. rw (e0, e1, e2, e3) (go x (eq? x f)))
+    where
+      go : (x : ℕ) → (x ≡ f) ⊎ (x ≡ f → ⊥) → cond (ltb x (size-in G)) (kind-at (upd (F 0) f k x) (upd (F 1) f g x) (upd (F 2) f h x) (upd (F 3) f p x)) monitor ≡ upd (kind-in F G) f (kind-at k g h p) x
+      go x (inl e) = rw (upd-at (kind-in F G) f (kind-at k g h p) x e, upd-at (F 0) f k x e, upd-at (F 1) f g x e, upd-at (F 2) f h x e, upd-at (F 3) f p x e, e, lt-ltb f (size-in G) hf)
+      go x (inr e) = rw (upd-other (kind-in F G) f (kind-at k g h p) x e, upd-other (F 0) f k x e, upd-other (F 1) f g x e, upd-other (F 2) f h x e, upd-other (F 3) f p x e)
+
+  pub state-kind : Aside F F′ → state-in F′ G w ≡ with-kind f (kind-at k g h p) (state-in F G w)
+  unfolding state-in with-kind remade
+  state-kind same = λ i. record {
     size = size-in G;
     first = first-in G;
-    kind = same-kinds v i;
-    shared = (per-guest-same share-part F g f v hg ∙ upd2-self (per-guest share-part F) f g (share-part v) (share ∙ sym (part-is share-part))) i;
-    count = (per-guest-same count-part F g f v hg ∙ ap (upd2 (per-guest count-part F) f g) count) i;
+    kind = kind-changed i;
+    shared = same .cells share-part i;
+    count = same .cells count-part i;
     exists = exists-in G;
     root = root-in G;
     dirty = dirty-in G;
     word = w;
   }
-    where
-      share : share-part v ≡ share-part (F (3 + g) f)
-      share = unfold share-part in omega arith
-
-      count : count-part v ≡ c
-      count = unfold count-part in omega arith
-
--- What a frame is.
-unfoldable pub kinds-set : (F : ℕ → ℕ → ℕ) → (f k g h p : ℕ) → ℕ → ℕ → ℕ
-kinds-set F f k g h p = upd2 (upd2 (upd2 (upd2 F 0 f k) 1 f g) 2 f h) 3 f p
-
-pub kind-changed : (F G : ℕ → ℕ → ℕ) (f k g h p : ℕ) → f < size-in G → kind-in (kinds-set F f k g h p) G ≡ upd (kind-in F G) f (kind-at k g h p)
-unfolding kind-in kinds-set upd2 upd
-kind-changed F G f k g h p hf = fun-ext (λ x. go x (eq? x f))
-  where
-    go : (x : ℕ) → (x ≡ f) ⊎ (x ≡ f → ⊥) → cond (ltb x (size-in G)) (kind-at (upd (F 0) f k x) (upd (F 1) f g x) (upd (F 2) f h x) (upd (F 3) f p x)) monitor ≡ upd (kind-in F G) f (kind-at k g h p) x
-    go x (inl e) = rw (upd-at (kind-in F G) f (kind-at k g h p) x e, upd-at (F 0) f k x e, upd-at (F 1) f g x e, upd-at (F 2) f h x e, upd-at (F 3) f p x e, e, lt-ltb f (size-in G) hf)
-    go x (inr e) = rw (upd-other (kind-in F G) f (kind-at k g h p) x e, upd-other (F 0) f k x e, upd-other (F 1) f g x e, upd-other (F 2) f h x e, upd-other (F 3) f p x e)
-
-per-guest-kinds : (part : ℕ → ℕ) (F : ℕ → ℕ → ℕ) (f k g h p : ℕ) → per-guest part (kinds-set F f k g h p) ≡ per-guest part F
-unfolding kinds-set
-per-guest-kinds part F f k g h p =
-    per-guest-other part (upd2 (upd2 (upd2 F 0 f k) 1 f g) 2 f h) 3 f p (inl (omega arith))
-    ∙ per-guest-other part (upd2 (upd2 F 0 f k) 1 f g) 2 f h (inl (omega arith))
-    ∙ per-guest-other part (upd2 F 0 f k) 1 f g (inl (omega arith))
-    ∙ per-guest-other part F 0 f k (inl (omega arith))
-
-pub state-kind : (F G w : ℕ → ℕ → ℕ) (f k g h p : ℕ) → f < size-in G → state-in (kinds-set F f k g h p) G w ≡ with-kind f (kind-at k g h p) (state-in F G w)
-unfolding state-in with-kind remade
-state-kind F G w f k g h p hf = λ i. record {
-  size = size-in G;
-  first = first-in G;
-  kind = kind-changed F G f k g h p hf i;
-  shared = per-guest-kinds share-part F f k g h p i;
-  count = per-guest-kinds count-part F f k g h p i;
-  exists = exists-in G;
-  root = root-in G;
-  dirty = dirty-in G;
-  word = w;
-}
-
--- Two frames change places in the free set, which is no part of the state.
-unfoldable pub places-set : (F : ℕ → ℕ → ℕ) → (f p q e : ℕ) → ℕ → ℕ → ℕ
-places-set F f p q e = upd2 (upd2 (upd2 (upd2 F 12 p e) 13 e p) 12 q f) 13 f q
-
-per-guest-places : (part : ℕ → ℕ) (F : ℕ → ℕ → ℕ) (f p q e : ℕ) → per-guest part (places-set F f p q e) ≡ per-guest part F
-unfolding places-set
-per-guest-places part F f p q e =
-    per-guest-other part (upd2 (upd2 (upd2 F 12 p e) 13 e p) 12 q f) 13 f q (inr (omega arith))
-    ∙ per-guest-other part (upd2 (upd2 F 12 p e) 13 e p) 12 q f (inr (omega arith))
-    ∙ per-guest-other part (upd2 F 12 p e) 13 e p (inr (omega arith))
-    ∙ per-guest-other part F 12 p e (inr (omega arith))
-
-pub state-places : (F G w : ℕ → ℕ → ℕ) (f p q e : ℕ) → state-in (places-set F f p q e) G w ≡ state-in F G w
-unfolding state-in
-state-places F G w f p q e = λ i. record {
-  size = size-in G;
-  first = first-in G;
-  kind = same i;
-  shared = per-guest-places share-part F f p q e i;
-  count = per-guest-places count-part F f p q e i;
-  exists = exists-in G;
-  root = root-in G;
-  dirty = dirty-in G;
-  word = w;
-}
-  where
-    same : kind-in (places-set F f p q e) G ≡ kind-in F G
-    same = unfold kind-in places-set upd2 upd in refl
 
 -- nobody shares: a frame's cells for all guests, one after the other
 unfoldable pub unshared-to : (h f : ℕ) → State → State
@@ -285,18 +245,18 @@ nobody-shares F G w f = λ i. record {
     gone : unshared-to guests f (state-in F G w) .shared ≡ upd (state-in F G w .shared) f zeros
     gone = fun-ext (λ x. fun-ext (λ g. at x g))
 
--- over all guests: nothing so far, nothing at all, something
-abbrev pub None-upto : (c : ℕ → ℕ) → ℕ → Type 0
-None-upto c g = (h : ℕ) → h < g → c (suc h) ≡ 0
+-- of guests 1 to g: none yet, one more, all
+unfoldable pub so-far : (c : ℕ → ℕ) (g : ℕ) → ℕ
+so-far c g = sum g (λ h. c (suc h))
 
-pub none-first : (c : ℕ → ℕ) → None-upto c 0
-none-first c h l = absurd (omega arith)
+pub none-yet : (c : ℕ → ℕ) → 0 ≡ so-far c 0
+unfolding so-far sum
+none-yet c = refl
 
-pub none-more : (c : ℕ → ℕ) (g : ℕ) → None-upto c g → c (g + 1) ≡ 0 → None-upto c (g + 1)
-none-more c g a e h l = elim (eq? h g) [ inl q ↦ rw (q, sym (add-one g)) e | inr q ↦ a h (omega arith) ]
+pub one-more : (c : ℕ → ℕ) (g n x : ℕ) → n ≡ so-far c g → x ≡ c (g + 1) → n + x ≡ so-far c (g + 1)
+unfolding so-far sum
+one-more c g n x a b = rw (add-one g) (rw (a, b, add-one g))
 
-pub total-none : (c : ℕ → ℕ) (g : ℕ) → g ≤ guests → guests ≤ g → None-upto c g → eqb (total c) 0 ≡ true
-total-none c g a b h = eq-eqb (total c) 0 (unfold total in sum-cong guests (λ x. c (suc x)) zeros (λ x l. unfold zeros in h x (omega arith)) ∙ sum-none guests zeros (λ x. unfold zeros in refl))
-
-pub total-some : (c : ℕ → ℕ) (g : ℕ) → g < guests → (c (g + 1) ≡ 0 → ⊥) → eqb (total c) 0 ≡ false
-total-some c g l ne = ne-eqb (total c) 0 (λ e. ne (rw (add-one g) (unfold total in sum-zero guests (λ x. c (suc x)) e g l)))
+pub all-told : (c : ℕ → ℕ) (g n : ℕ) → g ≤ guests → guests ≤ g → n ≡ so-far c g → n ≡ total c
+unfolding so-far total
+all-told c g n a b e = let q : g ≡ guests = omega arith in e ∙ ap (λ (x : ℕ). sum x (λ h. c (suc h))) q

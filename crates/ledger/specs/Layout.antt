@@ -1,14 +1,15 @@
 -- How document 03, section 1 lies in the lent ledger, a slice of 32-bit words in rows of 16 (64 bytes).
 -- Row 0 is the header, rows 1 to 8 are guests 1 to 8, row 9 + f is frame f. There is room for 8 guests and 2,097,152 frames.
---   header: 3 how many frames are free · 4 n · 5 and 6 b / 4096, its low 32 bits and the rest · 7 k
+--   header: 3 how many frames are free · 4 n · 5 and 6 b / 4096, its low 32 bits and the rest
 --   guest:  0 whether it exists · 1 whether it is dirty · 2 its root table
 --   frame:  0 what it is (kind-at) · 1 the guest · 2 a table's height · 3 the range that it serves, below 2^27
 --           3 + g, for guest g: the number of places where g maps it, plus 2^30 times what is shared with g (0, 1 or 2)
 --           12 the free set: the frame at a place, the free ones first · 13 the place of this frame
-use mathlib.Core.Bool.{Bool, true, false, _&&_, cond}
+use mathlib.Core.Bool.{Bool, cond}
 use mathlib.Core.List.{List}
-use Prim.Native.Nat.{ℕ, zero, suc, _+_, _*_, _-_, _/_, _%_}
+use Prim.Native.Nat.{ℕ, _+_, _*_, _-_, _≤_, _<_, _/_, _%_}
 use lib.Dec.{eqb, ltb}
+use lib.ListN.{length}
 use Rattle.memory.specs.Word.{wordAt}
 use Rattle.model.specs.State.{State, Kind, monitor, free, table, draining-table, page, draining-page, is-guest}
 use Rattle.ledger.specs.Cells.{cell}
@@ -18,6 +19,10 @@ most-frames = 2097152
 
 abbrev pub words-for : ℕ → ℕ
 words-for n = 144 + 16 * n
+
+-- the row of frame f is there
+abbrev pub Row : List ℕ → ℕ → Type 0
+Row l f = (f < most-frames) × (144 + 16 * f + 16 ≤ length l)
 
 abbrev pub frames : List ℕ → (column f : ℕ) → ℕ
 frames l = cell 144 most-frames l

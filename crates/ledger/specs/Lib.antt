@@ -8,5 +8,4 @@ pub mod Kinds
 pub mod Words
 pub mod Stores
 pub mod Sound
-pub mod Start
 pub mod Beside

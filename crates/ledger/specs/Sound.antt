@@ -2,7 +2,7 @@
 -- The law of the choice is read off the free set; and a count of places always fits its cell.
 use mathlib.Core.Path.{_≡_, refl, sym, ap, _∙_}
 use mathlib.Core.Bool.{Bool, true, false, _&&_, cond}
-use mathlib.Core.Logic.{_⊎_, inl, inr}
+use mathlib.Core.Logic.{inl, inr}
 use mathlib.Core.List.{List}
 use Prim.Native.Nat.{ℕ, zero, suc, _+_, _*_, _-_, _≤_, _<_, _^_}
 use native.Mathlib.Omega.{arith}
@@ -10,13 +10,13 @@ use native.Mathlib.Nat.{suc-mul}
 use lib.Dec.{eqb}
 use lib.ListN.{length}
 use Rattle.model.specs.Base.{eq?, upd, upd-same, upd-at, upd-other, sum, sum-cong, sum-none, sum-point}
-use Rattle.model.specs.State.{State, Kind, free, page, is-free, is-guest, free-frames}
+use Rattle.model.specs.State.{Kind, free, page, is-free, is-guest, free-frames}
 use Rattle.model.specs.Entry.{Entry}
 use Rattle.model.specs.Translate.{entry-at}
 use Rattle.model.specs.Changes.{Choice}
 use Rattle.model.specs.Invariant.Core.{Core, hit, places, is-last, leads, low as core-low}
-use Rattle.ledger.specs.Layout.{frames, guest-rows, most-frames, kind-at, kind-in, size-in, pick-in, state-in, size-of, kind-of, exists-of, root-of, count-of, pick-of, state-of}
-use Rattle.ledger.specs.FreeSet.{FreeSet, free-number, free-at, once-at}
+use Rattle.ledger.specs.Layout.{frames, guest-rows, kind-at, pick-in, state-in, size-of, kind-of, exists-of, count-of, pick-of, state-of}
+use Rattle.ledger.specs.FreeSet.{free-number, free-at, once-at}
 use Rattle.ledger.specs.Kinds.{free-here, kind-here}
 use Rattle.ledger.specs.Stock.{Stock}
 use Rattle.ledger.specs.Words.{Within}

@@ -1,14 +1,14 @@
 -- A ledger that fits: its length is that of its n, and its free set is right. Every function of this crate keeps it.
 -- Changed says what a function did: the state of the two slices is changed so, whatever RAM holds.
-use mathlib.Core.Path.{_≡_, refl, sym, ap, _∙_}
-use mathlib.Core.Logic.{_⊎_, inl, inr}
+use mathlib.Core.Path.{_≡_, refl, ap, _∙_}
+use mathlib.Core.Logic.{inl, inr}
 use mathlib.Core.List.{List}
 use Prim.Native.Nat.{ℕ, suc, _+_, _*_, _≤_, _<_}
 use native.Mathlib.Omega.{arith}
 use lib.ListN.{length}
 use Rattle.model.specs.Base.{upd2}
 use Rattle.model.specs.State.{State, Kind}
-use Rattle.ledger.specs.Cells.{cell, store, length-store, cell-store, cell-apart}
+use Rattle.ledger.specs.Cells.{store, length-store, cell-store, cell-apart}
 use Rattle.ledger.specs.Layout.{frames, guest-rows, words-for, most-frames, size-in, word-of, pick-of, state-in, state-of}
 use Rattle.ledger.specs.Fields.{with-kind}
 use Rattle.ledger.specs.FreeSet.{FreeSet}
@@ -57,6 +57,10 @@ changed l l′ F G h s e = record {
   stock = rw (h .length-is, h .frames-are, h .guests-are) s;
   state = λ ram. rw (h .frames-are, h .guests-are) (e (word-of ram));
 }
+
+-- the same change in other words
+pub changed-as : {φ ψ : State → State} {l l′ : List ℕ} → Changed φ l l′ → ((ram : List ℕ) → φ (state-of ram l) ≡ ψ (state-of ram l)) → Changed ψ l l′
+changed-as c e = record { stock = c .stock; state = λ ram. c .state ram ∙ e ram }
 
 -- one after the other
 pub changed-then : {φ ψ : State → State} {l l₁ l₂ : List ℕ} → Changed φ l l₁ → Changed ψ l₁ l₂ → Changed (λ s. ψ (φ s)) l l₂

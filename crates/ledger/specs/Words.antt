@@ -1,17 +1,14 @@
 -- The words of a frame in RAM: what the stores of this crate do to them.
-use mathlib.Core.Path.{_≡_, refl, sym, ap, _∙_, fun-ext}
-use mathlib.Core.Bool.{Bool, true, false, cond}
+use mathlib.Core.Path.{_≡_, refl, _∙_, fun-ext}
 use mathlib.Core.Logic.{_⊎_, inl, inr}
 use mathlib.Core.List.{List, []}
 use Prim.Native.Nat.{ℕ, _+_, _*_, _≤_, _<_, _^_}
 use native.Mathlib.Omega.{arith}
-use lib.Dec.{ltb}
 use lib.ListN.{length, getD}
 use borrow.Author.Tests.{lt-ltb, le-ltb}
 use Rattle.memory.specs.Word.{wordAt, storedAt, clearedAt}
 use Rattle.memory.specs.Laws.{word-agree, word-same, word-other, cleared-byte, cleared-other}
 use Rattle.model.specs.Base.{eq?, lt?, upd, upd-at, upd-other, upd2, upd2-at, upd2-other}
-use Rattle.model.specs.State.{State}
 use Rattle.model.specs.Changes.{zeros}
 use Rattle.ledger.specs.Layout.{word-of, state-in, state-of}
 use Rattle.ledger.specs.Fields.{remade, with-words}

@@ -1,16 +1,20 @@
 // A frame's row: what it is, whom it is shared with, and in how many places it is mapped.
 ghost use mathlib.Core.Path.{_≡_};
 ghost use mathlib.Core.Bool.{true};
-ghost use Prim.Native.Nat.{_<_, _≤_, _^_};
-ghost use lib.Dec.{eqb};
+ghost use Prim.Native.Nat.{_<_, _≤_, _^_, _/_, _%_};
 ghost use Rattle.model.specs.State.{is-free, is-page, is-page-of, is-guest, total};
-ghost use Rattle.ledger.specs.Layout.{size-of, kind-of, shared-of, count-of};
+ghost use Rattle.ledger.specs.Layout.{frames, size-of, kind-of, shared-of, count-of};
 ghost use Rattle.model.specs.Invariant.Kinds.{sort};
-ghost use Rattle.ledger.specs.Kinds.{guest-in, height-in, range-in};
-ghost use Rattle.ledger.specs.Fields.{with-share, with-no-shares, with-count};
+ghost use Rattle.ledger.specs.Kinds.{guest-in, kind-for};
+ghost use Rattle.ledger.specs.Fields.{with-cell, with-share, with-no-shares, with-count};
 ghost use Rattle.ledger.specs.Stock.{Stock, Changed};
 use super::GUESTS;
 use super::cells;
+
+pub struct Totals {
+    pub places: u64,
+    pub shares: u64,
+}
 
 // What it is: 0 monitor, 1 free, 2 table, 3 draining table, 4 page, 5 draining page.
 pub fn kind(ledger: &[u32], f: u64) -> u64
@@ -31,46 +35,10 @@ pub fn owner(ledger: &[u32], f: u64) -> u64
     requires { ⌜ f < size-of (now ledger) ⌝ }
     ensures { λ r. ⌜ r ≡ guest-in (kind-of (now (ledger .entry)) f) ⌝ }
 {
-    let k = cells::of_frame(ledger, 0, f);
-    if k < 2 {
-        return 0;
-    }
-    if 5 < k {
+    if kind(ledger, f) < 2 {
         return 0;
     }
     cells::of_frame(ledger, 1, f)
-}
-
-// A table's height, 3 at the root.
-pub fn height(ledger: &[u32], f: u64) -> u64
-    requires { ⌜ Stock (now ledger) ⌝ }
-    requires { ⌜ f < size-of (now ledger) ⌝ }
-    ensures { λ r. ⌜ r ≡ height-in (kind-of (now (ledger .entry)) f) ⌝ }
-{
-    let k = cells::of_frame(ledger, 0, f);
-    if k < 2 {
-        return 0;
-    }
-    if 3 < k {
-        return 0;
-    }
-    cells::of_frame(ledger, 2, f)
-}
-
-// The range that a table serves.
-pub fn range(ledger: &[u32], f: u64) -> u64
-    requires { ⌜ Stock (now ledger) ⌝ }
-    requires { ⌜ f < size-of (now ledger) ⌝ }
-    ensures { λ r. ⌜ r ≡ range-in (kind-of (now (ledger .entry)) f) ⌝ }
-{
-    let k = cells::of_frame(ledger, 0, f);
-    if k < 2 {
-        return 0;
-    }
-    if 3 < k {
-        return 0;
-    }
-    cells::of_frame(ledger, 3, f)
 }
 
 pub fn is_free(ledger: &[u32], f: u64) -> bool
@@ -89,15 +57,44 @@ pub fn is_page(ledger: &[u32], f: u64) -> bool
     cells::of_frame(ledger, 0, f) == 4
 }
 
+// What frame f is if it is stored for guest g, by its number; otherwise 0.
+pub fn kind_for(ledger: &[u32], f: u64, g: u64) -> u64
+    requires { ⌜ Stock (now ledger) ⌝ }
+    requires { ⌜ f < size-of (now ledger) ⌝ }
+    ensures { λ r. ⌜ r ≡ kind-for (frames (now (ledger .entry))) f g ⌝ }
+{
+    if cells::of_frame(ledger, 1, f) != g {
+        return 0;
+    }
+    cells::of_frame(ledger, 0, f)
+}
+
 pub fn is_page_of(ledger: &[u32], f: u64, g: u64) -> bool
     requires { ⌜ Stock (now ledger) ⌝ }
     requires { ⌜ f < size-of (now ledger) ⌝ }
     ensures { λ r. ⌜ r ≡ is-page-of (kind-of (now (ledger .entry)) f) g ⌝ }
 {
-    if cells::of_frame(ledger, 0, f) != 4 {
-        return false;
-    }
-    cells::of_frame(ledger, 1, f) == g
+    kind_for(ledger, f, g) == 4
+}
+
+// The cell for guest g, which is two numbers: what is shared with g, and in how many places g maps it.
+fn cell(ledger: &[u32], f: u64, g: u64) -> u64
+    requires { ⌜ Stock (now ledger) ⌝ }
+    requires { ⌜ f < size-of (now ledger) ⌝ }
+    requires { ⌜ is-guest g ≡ true ⌝ }
+    ensures { λ r. ⌜ (r / 1073741824 ≡ shared-of (now (ledger .entry)) f g) × (r % 1073741824 ≡ count-of (now (ledger .entry)) f g) × (r < 2 ^ 32) ⌝ }
+{
+    cells::of_frame(ledger, 3 + g, f)
+}
+
+fn set_cell(ledger: &mut [u32], f: u64, g: u64, how: u64, c: u64)
+    requires { ⌜ Stock (now ledger) ⌝ }
+    requires { ⌜ f < size-of (now ledger) ⌝ }
+    requires { ⌜ is-guest g ≡ true ⌝ }
+    requires { ⌜ (how < 4) × (c < 2 ^ 30) ⌝ }
+    ensures { λ _. ⌜ Changed (with-cell f g how c) (now (ledger .entry)) (now (ledger .exit)) ⌝ }
+{
+    cells::store_of_frame(ledger, 3 + g, f, how * 0x40000000 + c);
 }
 
 // What is shared with guest g: 0 nothing, 1 reading, 2 writing too.
@@ -107,7 +104,7 @@ pub fn share(ledger: &[u32], f: u64, g: u64) -> u64
     requires { ⌜ is-guest g ≡ true ⌝ }
     ensures { λ r. ⌜ r ≡ shared-of (now (ledger .entry)) f g ⌝ }
 {
-    cells::of_frame(ledger, 3 + g, f) / 0x40000000
+    cell(ledger, f, g) / 0x40000000
 }
 
 // In how many places guest g maps it.
@@ -117,7 +114,7 @@ pub fn count(ledger: &[u32], f: u64, g: u64) -> u64
     requires { ⌜ is-guest g ≡ true ⌝ }
     ensures { λ r. ⌜ r ≡ count-of (now (ledger .entry)) f g ⌝ }
 {
-    cells::of_frame(ledger, 3 + g, f) % 0x40000000
+    cell(ledger, f, g) % 0x40000000
 }
 
 pub fn set_share(ledger: &mut [u32], f: u64, g: u64, how: u64)
@@ -127,8 +124,8 @@ pub fn set_share(ledger: &mut [u32], f: u64, g: u64, how: u64)
     requires { ⌜ how ≤ 2 ⌝ }
     ensures { λ _. ⌜ Changed (with-share f g how) (now (ledger .entry)) (now (ledger .exit)) ⌝ }
 {
-    let x = cells::of_frame(ledger, 3 + g, f);
-    cells::store_of_frame(ledger, 3 + g, f, x % 0x40000000 + how * 0x40000000);
+    let x = cell(ledger, f, g);
+    set_cell(ledger, f, g, how, x % 0x40000000);
 }
 
 pub fn set_count(ledger: &mut [u32], f: u64, g: u64, c: u64)
@@ -138,8 +135,8 @@ pub fn set_count(ledger: &mut [u32], f: u64, g: u64, c: u64)
     requires { ⌜ c < 2 ^ 30 ⌝ }
     ensures { λ _. ⌜ Changed (with-count f g c) (now (ledger .entry)) (now (ledger .exit)) ⌝ }
 {
-    let x = cells::of_frame(ledger, 3 + g, f);
-    cells::store_of_frame(ledger, 3 + g, f, x / 0x40000000 * 0x40000000 + c);
+    let x = cell(ledger, f, g);
+    set_cell(ledger, f, g, x / 0x40000000, c);
 }
 
 // Shared with nobody.
@@ -155,34 +152,20 @@ pub fn clear_shares(ledger: &mut [u32], f: u64)
     }
 }
 
-// Whether nobody maps it.
-pub fn unmapped(ledger: &[u32], f: u64) -> bool
+// What all guests together have of it: the places where they map it, and what is shared with them.
+pub fn uses(ledger: &[u32], f: u64) -> Totals
     requires { ⌜ Stock (now ledger) ⌝ }
     requires { ⌜ f < size-of (now ledger) ⌝ }
-    ensures { λ r. ⌜ r ≡ eqb (total (count-of (now (ledger .entry)) f)) 0 ⌝ }
+    ensures { λ r. ⌜ (r .places ≡ total (count-of (now (ledger .entry)) f)) × (r .shares ≡ total (shared-of (now (ledger .entry)) f)) ⌝ }
 {
+    let mut places: u64 = 0;
+    let mut shares: u64 = 0;
     let mut g: u64 = 0;
     while g < GUESTS {
         g += 1;
-        if count(ledger, f, g) != 0 {
-            return false;
-        }
+        let x = cell(ledger, f, g);
+        places += x % 0x40000000;
+        shares += x / 0x40000000;
     }
-    true
-}
-
-// Whether it is shared with nobody.
-pub fn unshared(ledger: &[u32], f: u64) -> bool
-    requires { ⌜ Stock (now ledger) ⌝ }
-    requires { ⌜ f < size-of (now ledger) ⌝ }
-    ensures { λ r. ⌜ r ≡ eqb (total (shared-of (now (ledger .entry)) f)) 0 ⌝ }
-{
-    let mut g: u64 = 0;
-    while g < GUESTS {
-        g += 1;
-        if share(ledger, f, g) != 0 {
-            return false;
-        }
-    }
-    true
+    Totals { places, shares }
 }

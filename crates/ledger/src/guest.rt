@@ -1,6 +1,6 @@
 // A guest's row: whether it exists, whether it is dirty, its root table.
 ghost use mathlib.Core.Path.{_≡_};
-ghost use Prim.Native.Nat.{_<_, _≤_, _^_};
+ghost use Prim.Native.Nat.{_<_, _^_};
 ghost use lib.Dec.{eqb};
 ghost use Rattle.ledger.specs.Layout.{exists-of, dirty-of, root-of};
 ghost use Rattle.ledger.specs.Fields.{with-existence, with-dirt, with-root-at};

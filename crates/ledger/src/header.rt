@@ -1,6 +1,6 @@
 // n, b and the number of free frames.
 ghost use mathlib.Core.Path.{_≡_};
-ghost use Prim.Native.Nat.{_+_, _*_, _<_, _≤_, _^_};
+ghost use Prim.Native.Nat.{_+_, _*_, _<_, _^_};
 ghost use Rattle.ledger.specs.Layout.{size-of, first-of};
 ghost use Rattle.ledger.specs.Stock.{Stock};
 ghost use Rattle.ledger.specs.Sound.{free-of};

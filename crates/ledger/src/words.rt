@@ -1,7 +1,6 @@
 // The words of a frame in RAM.
 ghost use mathlib.Core.Path.{_≡_};
-ghost use Prim.Native.Nat.{_+_, _*_, _<_, _≤_, _^_};
-ghost use lib.ListN.{length};
+ghost use Prim.Native.Nat.{_+_, _*_, _<_, _^_};
 ghost use Rattle.model.specs.Base.{upd, upd2};
 ghost use Rattle.model.specs.Changes.{zeros};
 ghost use Rattle.ledger.specs.Layout.{word-of};

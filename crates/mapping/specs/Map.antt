@@ -10,7 +10,7 @@ use lib.Dec.{eqb, ltb, leb}
 use lib.ListN.{length}
 use borrow.Author.Tests.{le-leb, lt-leb, lt-ltb, le-ltb, ne-eqb}
 use Rattle.model.specs.Base.{lt?, upd2}
-use Rattle.model.specs.State.{State, table, page, pages, is-page, is-page-of, free-frames}
+use Rattle.model.specs.State.{State, page, pages, is-page, is-page-of, free-frames}
 use Rattle.model.specs.Entry.{page-entry}
 use Rattle.model.specs.Translate.{Page, is-some, mapped, missing}
 use Rattle.model.specs.Changes.{Grown, grow, with-page, with-mapping}
@@ -27,7 +27,7 @@ use Rattle.ledger.specs.Words.{state-words}
 use Rattle.ledger.specs.Sound.{Sound, free-of, free-is, chosen, count-fits}
 use Rattle.descent.specs.declared.Plan.{Plan}
 use Rattle.descent.specs.declared.Plan.the-variants.{Stop, Go}
-use Rattle.operation.specs.Answers.{Operation, Done, passed}
+use Rattle.operation.specs.Answers.{Operation, Done, through}
 use Rattle.descent.specs.Way.{Ended, ended-above, ended-missing, last-serves, last-leaf, last-empty}
 use Rattle.model.specs.Machine.{Map, answer}
 use Rattle.model.specs.Invariant.Effects.{rows}
@@ -111,12 +111,12 @@ stuck true true true true true true s o ne = absurd (ne refl)
 module _ (s : State) (f g a r : ℕ) where
   granted : refusal (asked s f g a r (done s)) ≡ 0 → Granted s f g a r
   granted h =
-      let p1 = passed (s .exists g) 5 _ (omega arith) h in
-      let p2 = passed (not (s .dirty g)) 14 _ (omega arith) (p1 .1) in
-      let p3 = passed (page-address a) 7 _ (omega arith) (p2 .1) in
-      let p4 = passed (is-rights r) 8 _ (omega arith) (p3 .1) in
-      let p5 = passed (ltb f (s .size)) 4 _ (omega arith) (p4 .1) in
-      let p6 = passed (may-map s g f r) 9 (done s) (omega arith) (p5 .1) in
+      let p1 = through (s .exists g) 5 _ (omega arith) h in
+      let p2 = through (not (s .dirty g)) 14 _ (omega arith) (p1 .1) in
+      let p3 = through (page-address a) 7 _ (omega arith) (p2 .1) in
+      let p4 = through (is-rights r) 8 _ (omega arith) (p3 .1) in
+      let p5 = through (ltb f (s .size)) 4 _ (omega arith) (p4 .1) in
+      let p6 = through (may-map s g f r) 9 (done s) (omega arith) (p5 .1) in
       record { exists = p1 .0; clean = p2 .0; address = p3 .0; rights = p4 .0; frame = p5 .0; may = p6 .0 }
 
   module _ (pick : ℕ → ℕ) where
@@ -150,7 +150,7 @@ MapPlan s f g a r pick (Stop k) = map s f g a r pick ≡ refuse k
 MapPlan s f g a r pick (Go t h) = Ready s f g a r t h
 
 -- whether there is an entry at the end of the way
-module _ (m l : List ℕ) (ok : Sound m l) (g v : ℕ) (ex : exists-of l g ≡ true) (h t : ℕ) (way : Ended (state-of m l) g v h t) where
+module _ {m l : List ℕ} (ok : Sound m l) {g v : ℕ} (ex : exists-of l g ≡ true) {h t : ℕ} (way : Ended (state-of m l) g v h t) where
   there : state-of m l .exists g ≡ true
   there = unfold state-in in ex
 
@@ -170,7 +170,7 @@ module _ (m l : List ℕ) (ok : Sound m l) (g v : ℕ) (ex : exists-of l g ≡ t
         sym (ap (λ (o : Option Page). is-some o) (translate-at (state-of m l) g v t (y .frame) (y .rights) (last-leaf (state-of m l) (ok .core) g v t there h way z) (y .reads)))
 
 -- the plan
-module _ (m l : List ℕ) (ok : Sound m l) (f g a r k : ℕ) (e : k ≡ refusal (asked (state-of m l) f g a r (done (state-of m l)))) where
+module _ {m l : List ℕ} (ok : Sound m l) (f g a r k : ℕ) (e : k ≡ refusal (asked (state-of m l) f g a r (done (state-of m l)))) where
   pub plan-asked : (k ≡ 0 → ⊥) → map (state-of m l) f g a r (pick-of l) ≡ refuse k
   plan-asked ne = map-refused (state-of m l) f g a r (pick-of l) k e ne
 
@@ -184,7 +184,7 @@ module _ (m l : List ℕ) (ok : Sound m l) (f g a r k : ℕ) (e : k ≡ refusal 
     pub plan-page : a / 4096 < pages
     plan-page = address-low a (all-granted .address)
 
-    module _ (h t : ℕ) (way : Ended (state-of m l) g (a / 4096) h t) (b : Bool) (q : b ≡ mapped (state-of m l) g (a / 4096)) where
+    module _ {h t : ℕ} (way : Ended (state-of m l) g (a / 4096) h t) (b : Bool) (q : b ≡ mapped (state-of m l) g (a / 4096)) where
       pub plan-10 : b ≡ true → map (state-of m l) f g a r (pick-of l) ≡ refuse 10
       plan-10 y = map-10 (state-of m l) f g a r (pick-of l) all-granted (sym q ∙ y)
 
@@ -207,7 +207,7 @@ pub record Filling (m₀ l₀ : List ℕ) (f g v : ℕ) (m l : List ℕ) (h t : 
   pub ram-same : length m ≡ length m₀
   pub ledger-same : length l ≡ length l₀
 
-module _ (m₀ l₀ : List ℕ) (ok : Sound m₀ l₀) (f g a r t₀ h₀ : ℕ) (ready : Ready (state-of m₀ l₀) f g a r t₀ h₀) where
+module _ {m₀ l₀ : List ℕ} (ok : Sound m₀ l₀) {f g a r t₀ h₀ : ℕ} (ready : Ready (state-of m₀ l₀) f g a r t₀ h₀) where
   a-page : (o : ℕ) × (state-of m₀ l₀ .kind f ≡ page o)
   a-page = go (may-is (state-of m₀ l₀) g f r (ready .granted .may))
     where
@@ -232,9 +232,9 @@ module _ (m₀ l₀ : List ℕ) (ok : Sound m₀ l₀) (f g a r t₀ h₀ : ℕ)
     ledger-same = refl;
   }
 
-  module _ (m l : List ℕ) (h t : ℕ) (x : Filling m₀ l₀ f g (a / 4096) m l h t) where
-    pub fill-more : (u : ℕ) (m′ l′ : List ℕ) → Made m l g (a / 4096) h t u m′ l′ → length m′ ≡ length m → length l′ ≡ length l → Filling m₀ l₀ f g (a / 4096) m′ l′ (h - 1) u
-    fill-more u m′ l′ y e q = record {
+  module _ {m l : List ℕ} {h t : ℕ} (x : Filling m₀ l₀ f g (a / 4096) m l h t) where
+    pub fill-more : {u : ℕ} {m′ l′ : List ℕ} → Made m l g (a / 4096) h t u m′ l′ → length m′ ≡ length m → length l′ ≡ length l → Filling m₀ l₀ f g (a / 4096) m′ l′ (h - 1) u
+    fill-more y e q = record {
       growing = y .growing;
       grows = x .grows ∙ y .grows;
       owner = x .owner;
@@ -299,7 +299,7 @@ module _ (m₀ l₀ : List ℕ) (ok : Sound m₀ l₀) (f g a r t₀ h₀ : ℕ)
         made = map-done (state-of m₀ l₀) f g a r (pick-of l₀) (ready .granted) (ready .unmapped) room ∙ ap done (all-is ∙ sym state)
 
 -- what is promised of an answer of 0
-module _ (m l : List ℕ) (ok : Sound m l) (m′ l′ : List ℕ) where
+module _ {m l m′ l′ : List ℕ} (ok : Sound m l) where
   module _ (f g a r : ℕ) (d : Done (mapping f g a r) m l m′ l′) where
     pub map-effect : Translates (Map f g a r (pick-of l)) m l m′ l′
     unfolding answer

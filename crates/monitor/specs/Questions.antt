@@ -1,27 +1,25 @@
 -- What a host is told, of the state: a frame, a guest, and what an address of a guest translates to.
 use mathlib.Core.Path.{_≡_, refl, sym, ap, _∙_}
-use mathlib.Core.Bool.{Bool, true, false, cond}
+use mathlib.Core.Bool.{true, cond}
 use mathlib.Core.List.{List}
-use Prim.Native.Nat.{ℕ, suc, _+_, _*_, _<_, _≤_, _^_}
+use Prim.Native.Nat.{ℕ, _+_, _*_, _<_, _≤_, _^_}
 use native.Mathlib.Omega.{arith}
-use native.Mathlib.Numerals.{add-one}
 use lib.Dec.{eqb, ltb}
 use borrow.Author.Tests.{lt-ltb}
 use Rattle.memory.specs.Word.{wordAt}
 use Rattle.walk.specs.declared.Answer.{Answer}
 use Rattle.walk.specs.declared.Answer.the-variants.{Refused}
 use Rattle.walk.specs.Both.{answer-2}
-use Rattle.model.specs.Base.{sum}
-use Rattle.model.specs.State.{State, Kind, monitor, free, table, draining-table, page, draining-page, guests, pages, is-guest, is-page, total}
+use Rattle.model.specs.State.{State, Kind, monitor, free, table, draining-table, page, draining-page, pages, is-guest, total}
 use Rattle.model.specs.Cache.{Access}
 use Rattle.model.specs.Bytes.{Image, access, answers}
 use Rattle.model.specs.Invariant.Core.{in-room}
-use Rattle.model.specs.Invariant.Kinds.{sort, page-is}
+use Rattle.model.specs.Invariant.Kinds.{sort}
 use Rattle.model.specs.Invariant.Bridge.{answer-says}
-use Rattle.ledger.specs.Layout.{size-of, first-of, root-of, exists-of, kind-of, count-of, word-of, state-in, state-of}
+use Rattle.ledger.specs.Layout.{size-of, first-of, root-of, exists-of, kind-of, count-of, state-in, state-of}
 use Rattle.ledger.specs.Kinds.{guest-in}
 use Rattle.ledger.specs.Words.{word-is}
-use Rattle.ledger.specs.Sound.{Sound, count-fits}
+use Rattle.ledger.specs.Sound.{Sound}
 use Rattle.monitor.specs.declared.FrameKind.{FrameKind}
 use Rattle.monitor.specs.declared.FrameKind.the-variants.{Outside, Monitor, Free, Table, Draining, Page}
 use Rattle.monitor.specs.declared.GuestKind.{GuestKind}
@@ -66,34 +64,7 @@ pub frame-here : (m l : List ℕ) (f k g : ℕ) (x : FrameKind) → f < size-of 
 unfolding frame-told state-in
 frame-here m l f k g x low a b e = e ∙ rw (a, b, lt-ltb f (size-of l) low) (by-sort (kind-of l f) (total (count-of l f)))
 
-pub sort-page : (x : Kind) → sort x ≡ 4 → is-page x ≡ true
-sort-page monitor e = absurd (omega arith)
-sort-page free e = absurd (omega arith)
-sort-page (table g h p) e = absurd (omega arith)
-sort-page (draining-table g h p) e = absurd (omega arith)
-sort-page (page g) e = refl
-sort-page (draining-page g) e = absurd (omega arith)
-
--- the places of guests 1 to g
-unfoldable pub so-far : (c : ℕ → ℕ) (g : ℕ) → ℕ
-so-far c g = sum g (λ h. c (suc h))
-
-pub none-yet : (c : ℕ → ℕ) → 0 ≡ so-far c 0
-unfolding so-far sum
-none-yet c = refl
-
-pub one-more : (c : ℕ → ℕ) (g n x : ℕ) → n ≡ so-far c g → x ≡ c (g + 1) → n + x ≡ so-far c (g + 1)
-unfolding so-far sum
-one-more c g n x a b = rw (add-one g) (rw (a, b, add-one g))
-
-pub all-told : (c : ℕ → ℕ) (g n : ℕ) → g ≤ guests → guests ≤ g → n ≡ so-far c g → n ≡ total c
-unfolding so-far total
-all-told c g n a b e = let q : g ≡ guests = omega arith in e ∙ ap (λ (x : ℕ). sum x (λ h. c (suc h))) q
-
 module _ (m l : List ℕ) (ok : Sound m l) where
-  pub count-low : (f g x : ℕ) → is-page (kind-of l f) ≡ true → x ≡ count-of l f g → x < 1073741824
-  count-low f g x p e = let o = page-is (kind-of l f) p in let a = count-fits m l ok f (o .0) g (o .1) in omega arith
-
   pub root-room : (g : ℕ) → exists-of l g ≡ true → first-of l + root-of l g < pages
   unfolding state-in
   root-room g e = in-room (state-of m l) (ok .core) (root-of l g) (table g 3 0) (ok .core .roots g e) refl

@@ -1,5 +1,5 @@
 -- Set-up, which counts on nothing: what fits, and the two slices after it.
-use mathlib.Core.Path.{_≡_, refl, sym, ap, _∙_}
+use mathlib.Core.Path.{_≡_, refl, ap}
 use mathlib.Core.Bool.{Bool, true, false, _&&_}
 use mathlib.Core.List.{List}
 use Prim.Native.Nat.{ℕ, _+_, _*_, _<_, _≤_, _/_, _%_}
@@ -11,10 +11,10 @@ use Rattle.model.specs.Base.{and-true}
 use Rattle.model.specs.State.{State, pages}
 use Rattle.model.specs.Operations.{Out, done, refusal, check, set-up, started}
 use Rattle.model.specs.Invariant.Holds.{started-core}
-use Rattle.ledger.specs.Layout.{words-for, most-frames, size-of, word-of, state-in, state-of}
-use Rattle.ledger.specs.Start.{LaidOut}
+use Rattle.ledger.specs.Layout.{words-for, most-frames, size-of, word-of, state-in}
+use Rattle.free_set.specs.Start.{LaidOut}
 use Rattle.ledger.specs.Sound.{Sound}
-use Rattle.operation.specs.Answers.{Outcome, refused-so, stops, goes-on, passed, and-left, and-right, and-both}
+use Rattle.operation.specs.Answers.{Outcome, refused-so, stops, goes-on, through, and-left, and-right, and-both}
 
 -- the slices have the lengths that n asks for
 unfoldable pub slices-fit : (n : ℕ) (ram ledger : List ℕ) → Bool
@@ -84,7 +84,7 @@ module _ (n b k : ℕ) (m l : List ℕ) where
   module _ (h : refusal (setting-up n b k m l) ≡ 0) where
     all-fit : All ≡ true
     unfolding set-up
-    all-fit = passed All 4 _ (omega arith) h .0
+    all-fit = through All 4 _ (omega arith) h .0
 
     upto-E : (A && B && C && D && E) ≡ true
     upto-E = and-true (A && B && C && D && E) (ltb k n) all-fit .0

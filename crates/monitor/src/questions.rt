@@ -1,9 +1,8 @@
 // What a host may ask, and nothing is changed: what a frame is, what a guest is, what an address of a guest translates to.
 ghost use mathlib.Core.Path.{_≡_};
 ghost use mathlib.Core.Bool.{true};
-ghost use Prim.Native.Nat.{_+_, _*_, _<_};
-ghost use Rattle.model.specs.State.{is-page, total};
-ghost use Rattle.ledger.specs.Layout.{size-of, first-of, root-of, exists-of, kind-of, count-of, state-of};
+ghost use Prim.Native.Nat.{_+_, _*_};
+ghost use Rattle.ledger.specs.Layout.{first-of, root-of, exists-of, state-of};
 ghost use Rattle.ledger.specs.Sound.{Sound};
 ghost use Rattle.monitor.specs.Questions.{frame-told, share-told, guest-told, translated};
 use super::FrameKind;
@@ -12,23 +11,6 @@ use ledger::frame;
 use ledger::guest;
 use ledger::header;
 use walk::Answer;
-
-// The number of places where a page is mapped.
-fn places(ram: &[u8], ledger: &[u32], f: u64) -> u64
-    requires { ⌜ Sound (now ram) (now ledger) ⌝ }
-    requires { ⌜ f < size-of (now ledger) ⌝ }
-    requires { ⌜ is-page (kind-of (now ledger) f) ≡ true ⌝ }
-    ensures { λ r. ⌜ r ≡ total (count-of (now (ledger .entry)) f) ⌝ }
-{
-    let mut n: u64 = 0;
-    let mut g: u64 = 0;
-    while g < ledger::GUESTS {
-        g += 1;
-        let more = frame::count(ledger, f, g);
-        n += more;
-    }
-    n
-}
 
 // What frame f is.
 pub fn what_frame(ram: &[u8], ledger: &[u32], f: u64) -> FrameKind
@@ -50,7 +32,7 @@ pub fn what_frame(ram: &[u8], ledger: &[u32], f: u64) -> FrameKind
         return FrameKind::Table(g);
     }
     if k == 4 {
-        let mapped = places(ram, ledger, f);
+        let mapped = frame::uses(ledger, f).places;
         return FrameKind::Page { owner: g, mapped };
     }
     FrameKind::Draining(g)

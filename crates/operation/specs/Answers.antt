@@ -4,7 +4,7 @@ use mathlib.Core.Path.{_≡_, refl, sym, ap, _∙_}
 use mathlib.Core.Bool.{Bool, true, false, _&&_}
 use mathlib.Core.Logic.{_⊎_, inl, inr}
 use mathlib.Core.List.{List}
-use Prim.Native.Nat.{ℕ, _+_, _*_, _<_, _≤_}
+use Prim.Native.Nat.{ℕ, _<_}
 use native.Mathlib.Omega.{arith}
 use lib.Dec.{ltb, leb}
 use lib.ListN.{length}
@@ -44,16 +44,16 @@ pub refused-so : (m l : List ℕ) (x : Out) (r : ℕ) → r ≡ refusal x → (r
 refused-so m l (refuse k) r e ne = (e, refl, refl)
 refused-so m l (done s) r e ne = absurd (ne e)
 
-module _ (o : Operation) (m l : List ℕ) where
-  pub refused : Sound m l → (r : ℕ) → r ≡ refusal (out o m l) → (r ≡ 0 → ⊥) → Answers o m l r m l
-  refused s r e ne = record { sound = s; outcome = refused-so m l (out o m l) r e ne }
+module _ {o : Operation} {m l : List ℕ} where
+  pub refused : {r : ℕ} → Sound m l → r ≡ refusal (out o m l) → (r ≡ 0 → ⊥) → Answers o m l r m l
+  refused {r} s e ne = record { sound = s; outcome = refused-so m l (out o m l) r e ne }
 
   pub answered : {m′ l′ : List ℕ} → Done o m l m′ l′ → Answers o m l 0 m′ l′
   answered d = record { sound = d .sound; outcome = rw (d .made) (refl, refl) }
 
--- the answer, where a check that makes a plan has stopped
-pub plan-refused : (o : Operation) (m l : List ℕ) (k : ℕ) → Sound m l → o (state-of m l) (pick-of l) ≡ refuse k → Answers o m l k m l
-plan-refused o m l k ok e = record { sound = ok; outcome = rw e (refl, refl, refl) }
+  -- the answer, where a check that makes a plan has stopped
+  pub plan-refused : {k : ℕ} → Sound m l → out o m l ≡ refuse k → Answers o m l k m l
+  plan-refused s e = record { sound = s; outcome = rw e (refl, refl, refl) }
 
 -- a check, as the code makes it: it stops here, or goes on
 pub stops : (b : Bool) (k : ℕ) (o : Out) → b ≡ false → k ≡ refusal (check b k o)
@@ -64,14 +64,14 @@ pub goes-on : {r : ℕ} (b : Bool) (k : ℕ) (o : Out) → b ≡ true → r ≡ 
 unfolding check
 goes-on b k o e h = rw e h
 
--- a check that was passed
-pub passed : (b : Bool) (k : ℕ) (o : Out) → 0 < k → refusal (check b k o) ≡ 0 → (b ≡ true) × (refusal o ≡ 0)
+-- a check that was passed, and is out of the way
+pub through : (b : Bool) (k : ℕ) (o : Out) → 0 < k → refusal (check b k o) ≡ 0 → (b ≡ true) × (refusal o ≡ 0) × (check b k o ≡ o)
 unfolding check
-passed true k o h e = (refl, e)
-passed false k o h e = absurd (omega arith)
+through true k o h e = (refl, e, refl)
+through false k o h e = absurd (omega arith)
 
 -- Sound after it: model's invariant holds of what the operation makes
-pub core-sound : (m l m′ l′ : List ℕ) (o : Out) → Sound m l → Then Core o → o ≡ done (state-of m′ l′) → Stock l′ → length m′ ≡ length m → state-of m′ l′ .size ≡ state-of m l .size → Sound m′ l′
+core-sound : (m l m′ l′ : List ℕ) (o : Out) → Sound m l → Then Core o → o ≡ done (state-of m′ l′) → Stock l′ → length m′ ≡ length m → state-of m′ l′ .size ≡ state-of m l .size → Sound m′ l′
 unfolding state-in
 core-sound m l m′ l′ o s core e stock len size = record {
   stock = stock;
@@ -79,10 +79,18 @@ core-sound m l m′ l′ o s core e stock len size = record {
   core = then-is o (state-of m′ l′) core e;
 }
 
--- the same of an operation that forgets nothing of what is kept
-pub still-sound : (m l m′ l′ : List ℕ) (o : Out) → Sound m l → ((k : Caches) → Kept (state-of m l) k → Good k o) → o ≡ done (state-of m′ l′) → Stock l′ → length m′ ≡ length m →
-    state-of m′ l′ .size ≡ state-of m l .size → Sound m′ l′
-still-sound m l m′ l′ o s good e stock len size = core-sound m l m′ l′ o s (core-alone (state-of m l) o good) e stock len size
+-- the doing, from the state that it has made
+module _ (o : Operation) (after : State) {m l m′ l′ : List ℕ} (s : Sound m l) where
+  pub core-done : Then Core (out o m l) → out o m l ≡ done after → Stock l′ → length m′ ≡ length m → after .size ≡ state-of m l .size → state-of m′ l′ ≡ after → Done o m l m′ l′
+  core-done core e stock len size state = record { sound = core-sound m l m′ l′ (out o m l) s core made stock len (ap (λ (x : State). x .size) state ∙ size); made = made }
+    where
+      made : out o m l ≡ done (state-of m′ l′)
+      made = e ∙ ap done (sym state)
+
+  -- the same of an operation that forgets nothing of what is kept
+  pub good-done : ((k : Caches) → Kept (state-of m l) k → Good k (out o m l)) → out o m l ≡ done after → Stock l′ → length m′ ≡ length m → after .size ≡ state-of m l .size → state-of m′ l′ ≡ after →
+      Done o m l m′ l′
+  good-done good = core-done (core-alone (state-of m l) (out o m l) good)
 
 -- a frame is still there when another field has changed
 pub still-low : {φ : State → State} {l l′ : List ℕ} → Changed φ l l′ → ((s : State) → φ s .size ≡ s .size) → (f : ℕ) → f < size-of l → f < size-of l′

@@ -1,6 +1,6 @@
 -- Of the two slices after an operation: what each address of each guest translates to, and what document 01's walk finds on the bytes.
 use mathlib.Core.Path.{_≡_, refl, sym, ap, subst, _∙_}
-use mathlib.Core.Bool.{Bool, true, false, not}
+use mathlib.Core.Bool.{Bool, true, false}
 use mathlib.Core.Option.{Option}
 use mathlib.Core.List.{List}
 use Prim.Native.Nat.{ℕ, _+_, _*_, _<_}
@@ -8,7 +8,7 @@ use native.Mathlib.Omega.{arith}
 use Rattle.memory.specs.Word.{wordAt}
 use Rattle.walk.specs.Both.{stage-2}
 use Rattle.model.specs.State.{State, pages}
-use Rattle.model.specs.Translate.{Page, translate, mapped}
+use Rattle.model.specs.Translate.{Page, translate}
 use Rattle.model.specs.Operations.{Out, refuse, done, refusal, check}
 use Rattle.model.specs.Cache.{Access}
 use Rattle.model.specs.Machine as M

@@ -1,24 +1,17 @@
--- Operations that leave RAM alone: the checks taken off one by one, and one change of the ledger.
-use mathlib.Core.Path.{_≡_, refl, sym, ap, _∙_}
-use mathlib.Core.Bool.{Bool, true, false}
+-- Operations that leave RAM alone: what they have found, and one change of the ledger.
+use mathlib.Core.Path.{_≡_, refl, _∙_}
+use mathlib.Core.Bool.{true}
 use mathlib.Core.List.{List}
 use Prim.Native.Nat.{ℕ, _<_}
-use native.Mathlib.Omega.{arith}
-use Rattle.model.specs.State.{State, Kind, page, is-guest}
-use Rattle.model.specs.Operations.{Out, done, refusal, check}
+use Rattle.model.specs.State.{State, page, is-guest}
+use Rattle.model.specs.Operations.{done}
 use Rattle.model.specs.Cache.{Caches}
 use Rattle.model.specs.Invariant.Core.{Kept}
 use Rattle.model.specs.Invariant.Answer.{Good}
 use Rattle.ledger.specs.Layout.{size-of, kind-of, state-of}
 use Rattle.ledger.specs.Stock.{Changed}
 use Rattle.ledger.specs.Sound.{Sound}
-use Rattle.operation.specs.Answers.{Operation, out, Done, still-sound}
-
--- a check that was passed, and is out of the way
-pub through : (b : Bool) (k : ℕ) (o : Out) → 0 < k → refusal (check b k o) ≡ 0 → (b ≡ true) × (refusal o ≡ 0) × (check b k o ≡ o)
-unfolding check
-through true k o h e = (refl, e, refl)
-through false k o h e = absurd (omega arith)
+use Rattle.operation.specs.Answers.{Operation, out, Done, good-done}
 
 -- what take, share and unshare have found when they refuse nothing: f is a page of g, and the guest c that they ask about is there
 pub record Owned (l : List ℕ) (f g c : ℕ) : Type 0 where
@@ -27,15 +20,6 @@ pub record Owned (l : List ℕ) (f g c : ℕ) : Type 0 where
   pub there : is-guest c ≡ true
 
 -- the doing, by one change of the ledger
-pub changed-so : (o : Operation) (m l l′ : List ℕ) {φ : State → State} (after : State) → Sound m l → ((k : Caches) → Kept (state-of m l) k → Good k (out o m l)) →
+pub changed-so : (o : Operation) {m l l′ : List ℕ} {φ : State → State} (after : State) → Sound m l → ((k : Caches) → Kept (state-of m l) k → Good k (out o m l)) →
     out o m l ≡ done after → Changed φ l l′ → φ (state-of m l) ≡ after → after .size ≡ state-of m l .size → Done o m l m l′
-changed-so o m l l′ after ok good e c same size = record {
-  sound = still-sound m l m l′ (out o m l) ok good made (c .stock) refl (ap (λ (x : State). x .size) state ∙ size);
-  made = made;
-}
-  where
-    state : state-of m l′ ≡ after
-    state = c .state m ∙ same
-
-    made : out o m l ≡ done (state-of m l′)
-    made = e ∙ ap done (sym state)
+changed-so o {m} after ok good e c same size = good-done o after ok good e (c .stock) refl size (c .state m ∙ same)

@@ -7,7 +7,6 @@ ghost use Rattle.operation.specs.Answers.{Answers, Done};
 ghost use Rattle.pages.specs.Give.{giving};
 ghost use Rattle.pages.specs.Take.{taking};
 use ledger::frame;
-use ledger::free_set;
 use ledger::guest;
 use ledger::header;
 use ledger::words;
@@ -64,10 +63,11 @@ fn check_take(ram: &[u8], ledger: &[u32], f: u64, g: u64) -> u64
     if !frame::is_page_of(ledger, f, g) {
         return 9;
     }
-    if !frame::unmapped(ledger, f) {
+    let used = frame::uses(ledger, f);
+    if used.places != 0 {
         return 13;
     }
-    if !frame::unshared(ledger, f) {
+    if used.shares != 0 {
         return 13;
     }
     0

@@ -2,14 +2,14 @@
 use mathlib.Core.Path.{_≡_, refl, sym, ap, _∙_}
 use mathlib.Core.Bool.{Bool, true, false, not, _&&_, _||_, cond}
 use mathlib.Core.List.{List}
-use Prim.Native.Nat.{ℕ, _<_, _≤_}
+use Prim.Native.Nat.{ℕ, _≤_}
 use native.Mathlib.Omega.{arith}
-use lib.Dec.{eqb, ltb, leb}
+use lib.Dec.{eqb, ltb}
 use borrow.Author.Tests.{ltb-true}
 use Rattle.model.specs.Base.{upd, upd2, and-true}
 use Rattle.model.specs.State.{State, Kind, page, is-page-of}
 use Rattle.model.specs.Changes.{becomes}
-use Rattle.model.specs.Operations.{Out, done, refusal, check, narrows, share, unshare}
+use Rattle.model.specs.Operations.{done, refusal, check, narrows, share, unshare}
 use Rattle.model.specs.Cache.{Caches}
 use Rattle.model.specs.Invariant.Core.{Kept}
 use Rattle.model.specs.Invariant.Answer.{Good}
@@ -20,8 +20,8 @@ use Rattle.ledger.specs.Fields.{remade, with-share}
 use Rattle.ledger.specs.Laws.{upd-self}
 use Rattle.ledger.specs.Stock.{Changed}
 use Rattle.ledger.specs.Sound.{Sound, guest-there}
-use Rattle.operation.specs.Answers.{Operation, out, Done}
-use Rattle.operation.specs.Quiet.{through, Owned, changed-so}
+use Rattle.operation.specs.Answers.{Operation, out, Done, through}
+use Rattle.operation.specs.Quiet.{Owned, changed-so}
 
 abbrev pub sharing : (g f h w : ℕ) → Operation
 sharing g f h w s pick = share s g f h w
@@ -62,7 +62,7 @@ module _ (c : ℕ) (d : Bool) (s : State) where
   unfolding check
   wide-out b e = rw e
 
-module _ (m l : List ℕ) (ok : Sound m l) (g f h : ℕ) where
+module _ {m l : List ℕ} (ok : Sound m l) (g f h : ℕ) where
   abbrev after : ℕ → State
   after how = becomes (state-of m l) f (page g) (word-of m) (upd2 (shared-of l) f h how)
 
@@ -75,7 +75,7 @@ module _ (m l : List ℕ) (ok : Sound m l) (g f h : ℕ) where
 
   shared-end : (o : Operation) (how : ℕ) (l′ : List ℕ) → ((k : Caches) → Kept (state-of m l) k → Good k (out o m l)) → Owned l f g h → out o m l ≡ done (after how) →
       Changed (with-share f h how) l l′ → Done o m l m l′
-  shared-end o how l′ good x e c = changed-so o m l l′ (after how) ok good e c same (unfold becomes in refl)
+  shared-end o how l′ good x e c = changed-so o (after how) ok good e c same (unfold becomes in refl)
     where
       stays : kind-of l ≡ upd (kind-of l) f (page g)
       stays = sym (upd-self (kind-of l) f) ∙ ap (upd (kind-of l) f) (x .its-page)

@@ -62,7 +62,7 @@ unfolding upper
 upper-less zero v = omega arith
 upper-less (suc h) v = let a = upper-less h v in omega arith
 
-module _ (m l : List ℕ) (g v h t : ℕ) (w : Growing m l g v h t) where
+module _ {m l : List ℕ} {g v h t : ℕ} (w : Growing m l g v h t) where
   pub grow-guest : is-guest g ≡ true
   grow-guest = w .sound .core .guests-only g (w .sound .core .table-exists t g h (upper (suc h) v) (w .serves))
 
@@ -83,8 +83,8 @@ module _ (m l : List ℕ) (g v h t : ℕ) (w : Growing m l g v h t) where
       go (suc h) k e = let a = upper-less h v in let b = w .page-low in let c : p ≡ upper h v / 512 = unfold upper in e in omega arith
 
 -- one table
-module _ (m l : List ℕ) (g v k t : ℕ) (w : Growing m l g v (suc k) t) (p u : ℕ) (ep : p ≡ upper (suc k) v) (low-u : u < size-of l) (free-u : kind-of l u ≡ free)
-    (l′ : List ℕ) (taken : Taken u (table g k p) l l′) where
+module _ {m l : List ℕ} {g v k t : ℕ} (w : Growing m l g v (suc k) t) {p u : ℕ} (ep : p ≡ upper (suc k) v) (low-u : u < size-of l) (free-u : kind-of l u ≡ free)
+    {l′ : List ℕ} (taken : Taken u (table g k p) l l′) where
   kinds : kind-of l′ ≡ upd (kind-of l) u (table g k p)
   kinds = unfold state-in with-kind remade in ap (λ (x : State). x .kind) (taken .changes .state m)
 
@@ -189,29 +189,29 @@ module _ (m l : List ℕ) (g v k t : ℕ) (w : Growing m l g v (suc k) t) (p u :
         ∙ linked-keep s (w .sound .core) t (index (suc k) v) u g k (upper (suc (suc k)) v) (upper (suc k) v) (w .serves) (omega arith) was range free-s f (page o) e refl
 
 -- of a height above 0
-module _ (m l : List ℕ) (g v h t : ℕ) (w : Growing m l g v h t) (pos : 0 < h) where
+module _ {m l : List ℕ} {g v h t : ℕ} (w : Growing m l g v h t) (pos : 0 < h) where
   high-is : h ≡ suc (h - 1)
   high-is = omega arith
 
   growing-so : Growing m l g v (suc (h - 1)) t
   growing-so = subst (λ (y : ℕ). Growing m l g v y t) high-is w
 
-  module _ (p u : ℕ) (ep : p ≡ upper h v) (low-u : u < size-of l) (free-u : kind-of l u ≡ free) (l′ : List ℕ) (taken : Taken u (table g (h - 1) p) l l′) where
+  module _ {p u : ℕ} (ep : p ≡ upper h v) (low-u : u < size-of l) (free-u : kind-of l u ≡ free) {l′ : List ℕ} (taken : Taken u (table g (h - 1) p) l l′) where
     upper-so : p ≡ upper (suc (h - 1)) v
     upper-so = ep ∙ ap (λ (y : ℕ). upper y v) high-is
 
     pub make-placed : Placed l′ t (p % 512) u
-    make-placed = placed-new m l g v (h - 1) t growing-so p u upper-so low-u free-u l′ taken
+    make-placed = placed-new growing-so upper-so low-u free-u taken
 
     pub make-room : first-of l′ + u < 2 ^ 36
     make-room =
-        let e = first-is m l g v (h - 1) t growing-so p u upper-so low-u free-u l′ taken in
-        let k = grow-room m l g v h t w (first-of l) u refl low-u in
+        let e = first-is growing-so upper-so low-u free-u taken in
+        let k = grow-room w (first-of l) u refl low-u in
         omega arith
 
     pub make-end : u ≡ pick-of l 0 → (m′ : List ℕ) → word-of m′ ≡ upd2 (upd (word-of m) u zeros) t (p % 512) (table-entry (first-of l′) u) → length m′ ≡ length m → Made m l g v h t u m′ l′
     make-end eu m′ w2 len = record {
-      growing = grown m l g v (h - 1) t growing-so p u upper-so low-u free-u l′ taken eu m′ w2 len;
-      grows = ap (λ (y : ℕ). grow y (state-of m l) g t v (pick-of l)) high-is ∙ goes-on m l g v (h - 1) t growing-so p u upper-so low-u free-u l′ taken eu m′ w2 len;
-      pages-stay = stay m l g v (h - 1) t growing-so p u upper-so low-u free-u l′ taken eu m′ w2 len;
+      growing = grown growing-so upper-so low-u free-u taken eu m′ w2 len;
+      grows = ap (λ (y : ℕ). grow y (state-of m l) g t v (pick-of l)) high-is ∙ goes-on growing-so upper-so low-u free-u taken eu m′ w2 len;
+      pages-stay = stay growing-so upper-so low-u free-u taken eu m′ w2 len;
     }

@@ -8,7 +8,6 @@ ghost use Rattle.ledger.specs.Layout.{first-of, word-of};
 ghost use Rattle.ledger.specs.Stock.{Stock};
 ghost use Rattle.ledger.specs.Words.{Within};
 ghost use Rattle.tables.specs.NewTable.{Placed, Blank, Growing, Made};
-use ledger::free_set;
 use ledger::header;
 use ledger::words;
 

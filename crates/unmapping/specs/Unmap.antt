@@ -26,7 +26,7 @@ use Rattle.ledger.specs.Words.{Within, state-words}
 use Rattle.ledger.specs.Sound.{Sound, within, guest-there, count-fits}
 use Rattle.descent.specs.declared.Plan.{Plan}
 use Rattle.descent.specs.declared.Plan.the-variants.{Stop, Go}
-use Rattle.operation.specs.Answers.{Operation, Done, still-sound}
+use Rattle.operation.specs.Answers.{Operation, Done, good-done}
 use Rattle.descent.specs.Way.{Ended, ended-above, last-serves, last-leaf, last-empty}
 use Rattle.model.specs.Machine.{Unmap, answer}
 use Rattle.model.specs.Invariant.Answer.{then-is}
@@ -69,7 +69,7 @@ module _ (s : State) (a g : ℕ) where
   unmap-done e q z = rw (e, q, z)
 
 -- the plan, from where the way ended
-module _ (m l : List ℕ) (ok : Sound m l) (a g : ℕ) (ex : exists-of l g ≡ true) (ad : page-address a ≡ true) (h t : ℕ) (way : Ended (state-of m l) g (a / 4096) h t) where
+module _ {m l : List ℕ} (ok : Sound m l) (a g : ℕ) (ex : exists-of l g ≡ true) (ad : page-address a ≡ true) {h t : ℕ} (way : Ended (state-of m l) g (a / 4096) h t) where
   there : state-of m l .exists g ≡ true
   there = unfold state-in in ex
 
@@ -108,7 +108,7 @@ module _ (m l : List ℕ) (ok : Sound m l) (a g : ℕ) (ex : exists-of l g ≡ t
           )
 
 -- the doing
-module _ (m l : List ℕ) (ok : Sound m l) (a g t f : ℕ) (x : Slotted (state-of m l) g a t f) where
+module _ {m l : List ℕ} (ok : Sound m l) {a g t f : ℕ} (x : Slotted (state-of m l) g a t f) where
   pub unmap-guest : is-guest g ≡ true
   unmap-guest = guest-there m l ok g (unfold state-in in x .exists)
 
@@ -140,18 +140,18 @@ module _ (m l : List ℕ) (ok : Sound m l) (a g t f : ℕ) (x : Slotted (state-o
 
   pub unmap-end : (k : ℕ) (m′ l₁ l′ : List ℕ) → word-of m′ ≡ upd2 (word-of m) t (a / 4096 % 512) 0 → length m′ ≡ length m → k ≡ count-of l f g →
       Changed (with-count f g (k - 1)) l l₁ → Changed (with-dirt g true) l₁ l′ → Done (unmapping a g) m l m′ l′
-  unmap-end k m′ l₁ l′ w len e c d = record {
-    sound = still-sound m l m′ l′ (unmap (state-of m l) g a) ok (λ k q. unmap-good (state-of m l) (ok .core) k q g a) made (d .stock) len (unfold without-page in ap (λ (x : State). x .size) state);
-    made = made;
-  }
+  unmap-end k m′ l₁ l′ w len e c d = good-done (unmapping a g) after ok (λ k q. unmap-good (state-of m l) (ok .core) k q g a) made (d .stock) len (unfold without-page in refl) state
     where
+      after : State
+      after = without-page (state-of m l) t (a / 4096 % 512) f g
+
       less : k - 1 ≡ pred (state-of m l .count f g)
       less = let q : k ≡ state-of m l .count f g = unfold state-in in e in sub-one k ∙ ap pred q
 
-      same : with-dirt g true (with-count f g (pred (state-of m l .count f g)) (with-words (upd2 (word-of m) t (a / 4096 % 512) 0) (state-of m l))) ≡ without-page (state-of m l) t (a / 4096 % 512) f g
+      same : with-dirt g true (with-count f g (pred (state-of m l .count f g)) (with-words (upd2 (word-of m) t (a / 4096 % 512) 0) (state-of m l))) ≡ after
       same = unfold with-dirt with-count with-words remade without-page state-in in refl
 
-      state : state-of m′ l′ ≡ without-page (state-of m l) t (a / 4096 % 512) f g
+      state : state-of m′ l′ ≡ after
       state =
           d .state m′ ∙ ap (with-dirt g true) (c .state m′)
           ∙ ap (λ (y : State). with-dirt g true (with-count f g (k - 1) y)) (state-words m m′ l (upd2 (word-of m) t (a / 4096 % 512) 0) w)
@@ -160,13 +160,13 @@ module _ (m l : List ℕ) (ok : Sound m l) (a g t f : ℕ) (x : Slotted (state-o
       page-is : translate (state-of m l) g (a / 4096) ≡ some (f, x .rights)
       page-is = translate-at (state-of m l) g (a / 4096) t f (x .rights) (x .leaf-is) (x .leads)
 
-      made : unmap (state-of m l) g a ≡ done (state-of m′ l′)
+      made : unmap (state-of m l) g a ≡ done after
       made =
           unmap-done (state-of m l) a g (x .exists) (x .address) (rw page-is)
-          ∙ ap done (without-is (state-of m l) (ok .core) g (a / 4096) t f (x .rights) (x .leaf-is) page-is ∙ sym state)
+          ∙ ap done (without-is (state-of m l) (ok .core) g (a / 4096) t f (x .rights) (x .leaf-is) page-is)
 
 -- what is promised of an answer of 0
-module _ (m l : List ℕ) (ok : Sound m l) (m′ l′ : List ℕ) where
+module _ {m l m′ l′ : List ℕ} (ok : Sound m l) where
   module _ (a g : ℕ) (d : Done (unmapping a g) m l m′ l′) where
     pub unmap-effect : Translates (Unmap g a) m l m′ l′
     unfolding answer

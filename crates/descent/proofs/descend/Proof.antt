@@ -24,20 +24,20 @@ root-requires : tie.Need-root-requires Inv-loop μ-loop
 root-requires c κs = (c .before .before .before .pre .0 .stock, guest-low (c .before .before .before .args .g) (guest-there (c .before .before .before .args .ram .now) (c .before .before .before .args .ledger .now) (c .before .before .before .pre .0) (c .before .before .before .args .g) (c .before .before .before .pre .1 .0)) .1)
 
 loop-holds : tie.Need-loop-holds Inv-loop μ-loop
-loop-holds c = way-root (c .before .before .before .before .args .ram .now) (c .before .before .before .before .args .ledger .now) (c .before .before .before .before .pre .0) (c .before .before .before .before .args .g) (c .before .before .before .before .args .v) (c .root .result) (c .root .ensures) (c .before .before .before .before .pre .1 .0) (c .before .before .before .before .pre .1 .1)
+loop-holds c = way-root (c .before .before .before .before .pre .0) (c .before .before .before .before .args .g) (c .before .before .before .before .args .v) (c .root .result) (c .root .ensures) (c .before .before .before .before .pre .1 .0) (c .before .before .before .before .pre .1 .1)
 
 upper-requires : tie.Need-upper-requires Inv-loop μ-loop
 upper-requires c κs = c .before .loop .inv .high
 
 entry-requires : tie.Need-entry-requires Inv-loop μ-loop
-entry-requires c κs = let k = way-words (c .before .before .before .before .before .before .before .args .ram .now) (c .before .before .before .before .before .before .before .args .ledger .now) (c .before .before .before .before .before .before .before .pre .0) (c .before .before .before .before .before .before .before .args .g) (c .before .before .before .before .before .before .before .args .v) (c .before .before .loop .height) (c .before .before .loop .table) (c .before .before .loop .inv) in
+entry-requires c κs = let k = way-words (c .before .before .before .before .before .before .before .pre .0) (c .before .before .loop .inv) in
     (omega arith, k .0, k .1)
 
 returns : tie.Need-returns Inv-loop μ-loop
-returns c = way-short (c .before .before .before .before .before .before .before .before .before .args .ram .now) (c .before .before .before .before .before .before .before .before .before .args .ledger .now) (c .before .before .before .before .before .before .before .before .before .pre .0) (c .before .before .before .before .before .before .before .before .before .args .g) (c .before .before .before .before .before .before .before .before .before .args .v) (c .before .before .before .before .loop .height) (c .before .before .before .before .loop .table) (c .before .before .before .before .loop .inv) (c .before .entry .result) (c .before .entry .ensures ∙ ap (λ (y : ℕ). word-of (c .before .before .before .before .before .before .before .before .before .args .ram .now) (c .before .before .before .before .loop .table) (y % 512)) (c .before .before .upper .ensures)) (c .if1 .taken)
+returns c = way-short (c .before .before .before .before .before .before .before .before .before .pre .0) (c .before .before .before .before .loop .inv) (c .before .entry .result) (c .before .entry .ensures ∙ ap (λ (y : ℕ). word-of (c .before .before .before .before .before .before .before .before .before .args .ram .now) (c .before .before .before .before .loop .table) (y % 512)) (c .before .before .upper .ensures)) (c .if1 .taken)
 
 sub-table : tie.Need-sub-table Inv-loop μ-loop
-sub-table c = (way-down (c .before .before .before .before .before .before .before .before .before .args .ram .now) (c .before .before .before .before .before .before .before .before .before .args .ledger .now) (c .before .before .before .before .before .before .before .before .before .pre .0) (c .before .before .before .before .before .before .before .before .before .args .g) (c .before .before .before .before .before .before .before .before .before .args .v) (c .before .before .before .before .loop .height) (c .before .before .before .before .loop .table) (c .before .before .before .before .loop .inv) (c .before .before .before .before .before .before .first .result) (c .before .entry .result) (c .before .before .before .before .before .before .first .ensures) (c .before .before .before .loop-test .taken) (c .before .entry .ensures ∙ ap (λ (y : ℕ). word-of (c .before .before .before .before .before .before .before .before .before .args .ram .now) (c .before .before .before .before .loop .table) (y % 512)) (c .before .before .upper .ensures)) (c .if1 .left)) .0
+sub-table c = (way-down (c .before .before .before .before .before .before .before .before .before .pre .0) (c .before .before .before .before .loop .inv) (c .before .before .before .before .before .before .first .result) (c .before .entry .result) (c .before .before .before .before .before .before .first .ensures) (c .before .before .before .loop-test .taken) (c .before .entry .ensures ∙ ap (λ (y : ℕ). word-of (c .before .before .before .before .before .before .before .before .before .args .ram .now) (c .before .before .before .before .loop .table) (y % 512)) (c .before .before .upper .ensures)) (c .if1 .left)) .0
 
 sub-height : tie.Need-sub-height Inv-loop μ-loop
 sub-height c = search needs
@@ -46,7 +46,7 @@ loop-less : tie.Need-loop-less Inv-loop μ-loop
 loop-less c = omega arith
 
 loop-again : tie.Need-loop-again Inv-loop μ-loop
-loop-again c = (way-down (c .before .before .before .before .before .before .before .before .before .args .ram .now) (c .before .before .before .before .before .before .before .before .before .args .ledger .now) (c .before .before .before .before .before .before .before .before .before .pre .0) (c .before .before .before .before .before .before .before .before .before .args .g) (c .before .before .before .before .before .before .before .before .before .args .v) (c .before .before .before .before .loop .height) (c .before .before .before .before .loop .table) (c .before .before .before .before .loop .inv) (c .before .before .before .before .before .before .first .result) (c .before .entry .result) (c .before .before .before .before .before .before .first .ensures) (c .before .before .before .loop-test .taken) (c .before .entry .ensures ∙ ap (λ (y : ℕ). word-of (c .before .before .before .before .before .before .before .before .before .args .ram .now) (c .before .before .before .before .loop .table) (y % 512)) (c .before .before .upper .ensures)) (c .if1 .left)) .1
+loop-again c = (way-down (c .before .before .before .before .before .before .before .before .before .pre .0) (c .before .before .before .before .loop .inv) (c .before .before .before .before .before .before .first .result) (c .before .entry .result) (c .before .before .before .before .before .before .first .ensures) (c .before .before .before .loop-test .taken) (c .before .entry .ensures ∙ ap (λ (y : ℕ). word-of (c .before .before .before .before .before .before .before .before .before .args .ram .now) (c .before .before .before .before .loop .table) (y % 512)) (c .before .before .upper .ensures)) (c .if1 .left)) .1
 
 returns-2 : tie.Need-returns-2 Inv-loop μ-loop
 returns-2 c = ended-last (state-of (c .before .before .before .before .before .before .args .ram .now) (c .before .before .before .before .before .before .args .ledger .now)) (c .before .before .before .before .before .before .pre .0 .core) (c .before .before .before .before .before .before .args .g) (c .before .before .before .before .before .before .args .v) (c .before .loop .height) (c .before .loop .table) (c .before .loop .inv) (c .loop-test .left)

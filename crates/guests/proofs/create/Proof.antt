@@ -2,13 +2,12 @@
 -- Check, then do.
 use mathlib.Core.Path.{_∙_, sym}
 use Rattle.operation.specs.Answers.{refused, answered}
-use Rattle.guests.specs.Create.{creating}
 use borrow.Author.Needs.{needs}
 use Rattle.guests.proofs.create.Statement.{statement}
 use Rattle.guests.proofs.create.Tie as tie
 
 check-create-requires : tie.Need-check-create-requires
-check-create-requires c κs = c .before .before .before .before .pre
+check-create-requires c κs = search needs
 
 same-length : tie.Need-same-length
 same-length c = search needs
@@ -17,7 +16,7 @@ same-length-2 : tie.Need-same-length-2
 same-length-2 c = search needs
 
 returns : tie.Need-returns
-returns c = refused (creating (c .before .before .before .before .before .before .args .g)) (c .before .before .before .before .before .before .args .ram .now) (c .before .before .before .before .before .before .args .ledger .now) (c .before .before .before .before .before .before .pre) (c .before .check-create .result) (c .before .check-create .ensures) (c .if1 .taken)
+returns c = refused (c .before .before .before .before .before .before .pre) (c .before .check-create .ensures) (c .if1 .taken)
 
 do-create-requires : tie.Need-do-create-requires
 do-create-requires c κs = (c .before .before .before .before .before .before .before .before .pre, sym (c .before .before .before .check-create .ensures) ∙ c .before .before .if1 .left)
@@ -29,7 +28,7 @@ same-length-4 : tie.Need-same-length-4
 same-length-4 c = search needs
 
 returns-2 : tie.Need-returns-2
-returns-2 c = answered (creating (c .before .before .before .before .before .before .before .before .before .before .before .before .before .args .g)) (c .before .before .before .before .before .before .before .before .before .before .before .before .before .args .ram .now) (c .before .before .before .before .before .before .before .before .before .before .before .before .before .args .ledger .now) (c .before .before .before .before .do-create .ensures)
+returns-2 c = answered (c .before .before .before .before .do-create .ensures)
 
 pub create-spec : {M : Type 1} → statement M
 create-spec =

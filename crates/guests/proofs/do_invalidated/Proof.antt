@@ -10,13 +10,13 @@ release-all-requires : tie.Need-release-all-requires
 release-all-requires c κs = c .before .before .before .pre .0 .stock
 
 set-dirty-requires : tie.Need-set-dirty-requires
-set-dirty-requires c κs = (c .before .before .before .release-all .ensures .stock, (invalidated-guest (c .before .before .before .before .before .before .before .args .ram .now) (c .before .before .before .before .before .before .before .args .ledger .now) (c .before .before .before .before .before .before .before .pre .0) (c .before .before .before .before .before .before .before .args .g) (c .before .before .before .before .before .before .before .pre .1), omega arith))
+set-dirty-requires c κs = (c .before .before .before .release-all .ensures .stock, (invalidated-guest (c .before .before .before .before .before .before .before .pre .0) (c .before .before .before .before .before .before .before .args .g) (c .before .before .before .before .before .before .before .pre .1), omega arith))
 
 same-length : tie.Need-same-length
 same-length c = search needs
 
 returns : tie.Need-returns
-returns c = invalidated-end (c .before .before .before .before .before .before .before .before .before .before .args .ram .now) (c .before .before .before .before .before .before .before .before .before .before .args .ledger .now) (c .before .before .before .before .before .before .before .before .before .before .pre .0) (c .before .before .before .before .before .before .before .before .before .before .args .g) (c .before .before .before .before .before .before .before .before .before .before .pre .1) _ _ (c .before .before .before .before .before .before .release-all .ensures) (c .before .before .set-dirty .ensures)
+returns c = invalidated-end (c .before .before .before .before .before .before .before .before .before .before .pre .0) (c .before .before .before .before .before .before .before .before .before .before .args .g) (c .before .before .before .before .before .before .before .before .before .before .pre .1) _ _ (c .before .before .before .before .before .before .release-all .ensures) (c .before .before .set-dirty .ensures)
 
 pub do-invalidated-spec : {M : Type 1} → statement M
 do-invalidated-spec =

@@ -5,7 +5,7 @@ use Prim.Native.Nat.{ℕ, _-_, _≤_}
 use lib.ListN.{length}
 use Rattle.model.specs.Changes.{drained}
 use Rattle.ledger.specs.Layout.{size-of}
-use Rattle.ledger.specs.Fields.{remade, with-kind, with-drained}
+use Rattle.ledger.specs.Fields.{remade, with-kind, with-kind-by}
 use Rattle.ledger.specs.Stock.{Changed}
 use Rattle.operation.specs.Answers.{still-low}
 use Rattle.guests.specs.Upto.{upto, without, upto-none, upto-more, upto-low, drain-turn}
@@ -29,7 +29,7 @@ drain-requires : tie.Need-drain-requires Inv-loop μ-loop
 drain-requires c κs = (c .before .before .loop .inv .1 .stock, (upto-low (drained (c .before .before .before .before .before .before .args .g)) (without (c .before .before .before .before .before .before .args .g)) (c .before .before .loop .f) (c .before .before .loop .inv .1) (c .before .before .loop .f) (omega (arith, c .before .before .before .size .ensures .0, c .before .loop-test .taken))))
 
 set-count-requires : tie.Need-set-count-requires Inv-loop μ-loop
-set-count-requires c κs = (c .before .before .before .drain .ensures .stock, (still-low (c .before .before .before .drain .ensures) (λ s. unfold with-drained with-kind remade in refl) (c .before .before .before .before .before .before .loop .f) ((upto-low (drained (c .before .before .before .before .before .before .before .before .before .before .args .g)) (without (c .before .before .before .before .before .before .before .before .before .before .args .g)) (c .before .before .before .before .before .before .loop .f) (c .before .before .before .before .before .before .loop .inv .1) (c .before .before .before .before .before .before .loop .f) (omega (arith, c .before .before .before .before .before .before .before .size .ensures .0, c .before .before .before .before .before .loop-test .taken)))), (c .before .before .before .before .before .before .before .before .before .before .pre .1, omega arith)))
+set-count-requires c κs = (c .before .before .before .drain .ensures .stock, (still-low (c .before .before .before .drain .ensures) (λ s. unfold with-kind-by with-kind remade in refl) (c .before .before .before .before .before .before .loop .f) ((upto-low (drained (c .before .before .before .before .before .before .before .before .before .before .args .g)) (without (c .before .before .before .before .before .before .before .before .before .before .args .g)) (c .before .before .before .before .before .before .loop .f) (c .before .before .before .before .before .before .loop .inv .1) (c .before .before .before .before .before .before .loop .f) (omega (arith, c .before .before .before .before .before .before .before .size .ensures .0, c .before .before .before .before .before .loop-test .taken)))), (c .before .before .before .before .before .before .before .before .before .before .pre .1, omega arith)))
 
 add-f : tie.Need-add-f Inv-loop μ-loop
 add-f c = omega (arith, c .before .before .before .before .before .before .before .before .before .before .size .ensures .1)

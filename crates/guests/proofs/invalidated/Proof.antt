@@ -2,19 +2,18 @@
 -- Check, then do.
 use mathlib.Core.Path.{_∙_, sym}
 use Rattle.operation.specs.Answers.{refused, answered}
-use Rattle.guests.specs.Invalidated.{invalidating}
 use borrow.Author.Needs.{needs}
 use Rattle.guests.proofs.invalidated.Statement.{statement}
 use Rattle.guests.proofs.invalidated.Tie as tie
 
 check-invalidated-requires : tie.Need-check-invalidated-requires
-check-invalidated-requires c κs = c .before .before .before .pre
+check-invalidated-requires c κs = search needs
 
 same-length : tie.Need-same-length
 same-length c = search needs
 
 returns : tie.Need-returns
-returns c = refused (invalidating (c .before .before .before .before .before .args .g)) (c .before .before .before .before .before .args .ram .now) (c .before .before .before .before .before .args .ledger .now) (c .before .before .before .before .before .pre) (c .before .check-invalidated .result) (c .before .check-invalidated .ensures) (c .if1 .taken)
+returns c = refused (c .before .before .before .before .before .pre) (c .before .check-invalidated .ensures) (c .if1 .taken)
 
 do-invalidated-requires : tie.Need-do-invalidated-requires
 do-invalidated-requires c κs = (c .before .before .before .before .before .before .pre, sym (c .before .before .check-invalidated .ensures) ∙ c .before .if1 .left)
@@ -23,7 +22,7 @@ same-length-2 : tie.Need-same-length-2
 same-length-2 c = search needs
 
 returns-2 : tie.Need-returns-2
-returns-2 c = answered (invalidating (c .before .before .before .before .before .before .before .before .before .args .g)) (c .before .before .before .before .before .before .before .before .before .args .ram .now) (c .before .before .before .before .before .before .before .before .before .args .ledger .now) (c .before .before .do-invalidated .ensures)
+returns-2 c = answered (c .before .before .do-invalidated .ensures)
 
 pub invalidated-spec : {M : Type 1} → statement M
 invalidated-spec =

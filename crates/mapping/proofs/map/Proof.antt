@@ -4,7 +4,7 @@ use mathlib.Core.Path.{subst}
 use Rattle.ledger.specs.Layout.{pick-of, state-of}
 use Rattle.descent.specs.declared.Plan.{Plan}
 use Rattle.operation.specs.Answers.{answered, plan-refused}
-use Rattle.mapping.specs.Map.{mapping, MapPlan, map-nonzero, map-effect, map-found}
+use Rattle.mapping.specs.Map.{MapPlan, map-nonzero, map-effect, map-found}
 use borrow.Author.Needs.{needs}
 use Rattle.mapping.proofs.map.Statement.{statement}
 use Rattle.mapping.proofs.map.Tie as tie
@@ -28,13 +28,7 @@ same-length-2 : tie.Need-same-length-2
 same-length-2 c = search needs
 
 returns : tie.Need-returns
-returns c = (
-  plan-refused (mapping (c .before .before .before .before .before .before .before .before .args .f) (c .before .before .before .before .before .before .before .before .args .g) (c .before .before .before .before .before .before .before .before .args .a) (c .before .before .before .before .before .before .before .before .args .r)) (c .before .before .before .before .before .before .before .before .args .ram .now) (c .before .before .before .before .before .before .before .before .args .ledger .now) _ (c .before .before .before .before .before .before .before .before .pre) (subst (λ (p : Plan). MapPlan (state-of (c .before .before .before .before .before .before .before .before .args .ram .now) (c .before .before .before .before .before .before .before .before .args .ledger .now)) (c .before .before .before .before .before .before .before .before .args .f) (c .before .before .before .before .before .before .before .before .args .g) (c .before .before .before .before .before .before .before .before .args .a) (c .before .before .before .before .before .before .before .before .args .r) (pick-of (c .before .before .before .before .before .before .before .before .args .ledger .now)) p) (c .before .plan .given .1) (c .before .before .before .plan-map .ensures)),
-  (
-    λ z. absurd (map-nonzero (state-of (c .before .before .before .before .before .before .before .before .args .ram .now) (c .before .before .before .before .before .before .before .before .args .ledger .now)) (c .before .before .before .before .before .before .before .before .args .f) (c .before .before .before .before .before .before .before .before .args .g) (c .before .before .before .before .before .before .before .before .args .a) (c .before .before .before .before .before .before .before .before .args .r) (pick-of (c .before .before .before .before .before .before .before .before .args .ledger .now)) _ (subst (λ (p : Plan). MapPlan (state-of (c .before .before .before .before .before .before .before .before .args .ram .now) (c .before .before .before .before .before .before .before .before .args .ledger .now)) (c .before .before .before .before .before .before .before .before .args .f) (c .before .before .before .before .before .before .before .before .args .g) (c .before .before .before .before .before .before .before .before .args .a) (c .before .before .before .before .before .before .before .before .args .r) (pick-of (c .before .before .before .before .before .before .before .before .args .ledger .now)) p) (c .before .plan .given .1) (c .before .before .before .plan-map .ensures)) z),
-    λ z. absurd (map-nonzero (state-of (c .before .before .before .before .before .before .before .before .args .ram .now) (c .before .before .before .before .before .before .before .before .args .ledger .now)) (c .before .before .before .before .before .before .before .before .args .f) (c .before .before .before .before .before .before .before .before .args .g) (c .before .before .before .before .before .before .before .before .args .a) (c .before .before .before .before .before .before .before .before .args .r) (pick-of (c .before .before .before .before .before .before .before .before .args .ledger .now)) _ (subst (λ (p : Plan). MapPlan (state-of (c .before .before .before .before .before .before .before .before .args .ram .now) (c .before .before .before .before .before .before .before .before .args .ledger .now)) (c .before .before .before .before .before .before .before .before .args .f) (c .before .before .before .before .before .before .before .before .args .g) (c .before .before .before .before .before .before .before .before .args .a) (c .before .before .before .before .before .before .before .before .args .r) (pick-of (c .before .before .before .before .before .before .before .before .args .ledger .now)) p) (c .before .plan .given .1) (c .before .before .before .plan-map .ensures)) z),
-  ),
-)
+returns c = (plan-refused (c .before .before .before .before .before .before .before .before .pre) (subst (λ (p : Plan). MapPlan (state-of (c .before .before .before .before .before .before .before .before .args .ram .now) (c .before .before .before .before .before .before .before .before .args .ledger .now)) (c .before .before .before .before .before .before .before .before .args .f) (c .before .before .before .before .before .before .before .before .args .g) (c .before .before .before .before .before .before .before .before .args .a) (c .before .before .before .before .before .before .before .before .args .r) (pick-of (c .before .before .before .before .before .before .before .before .args .ledger .now)) p) (c .before .plan .given .1) (c .before .before .before .plan-map .ensures)), (λ z. absurd (map-nonzero _ _ _ _ _ _ _ (subst (λ (p : Plan). MapPlan (state-of (c .before .before .before .before .before .before .before .before .args .ram .now) (c .before .before .before .before .before .before .before .before .args .ledger .now)) (c .before .before .before .before .before .before .before .before .args .f) (c .before .before .before .before .before .before .before .before .args .g) (c .before .before .before .before .before .before .before .before .args .a) (c .before .before .before .before .before .before .before .before .args .r) (pick-of (c .before .before .before .before .before .before .before .before .args .ledger .now)) p) (c .before .plan .given .1) (c .before .before .before .plan-map .ensures)) z), λ z. absurd (map-nonzero _ _ _ _ _ _ _ (subst (λ (p : Plan). MapPlan (state-of (c .before .before .before .before .before .before .before .before .args .ram .now) (c .before .before .before .before .before .before .before .before .args .ledger .now)) (c .before .before .before .before .before .before .before .before .args .f) (c .before .before .before .before .before .before .before .before .args .g) (c .before .before .before .before .before .before .before .before .args .a) (c .before .before .before .before .before .before .before .before .args .r) (pick-of (c .before .before .before .before .before .before .before .before .args .ledger .now)) p) (c .before .plan .given .1) (c .before .before .before .plan-map .ensures)) z)))
 
 same-length-3 : tie.Need-same-length-3
 same-length-3 c = search needs
@@ -44,10 +38,10 @@ same-length-4 c = search needs
 
 returns-2 : tie.Need-returns-2
 returns-2 c = (
-  answered (mapping (c .before .before .before .before .before .before .before .before .before .before .before .before .before .before .before .args .f) (c .before .before .before .before .before .before .before .before .before .before .before .before .before .before .before .args .g) (c .before .before .before .before .before .before .before .before .before .before .before .before .before .before .before .args .a) (c .before .before .before .before .before .before .before .before .before .before .before .before .before .before .before .args .r)) (c .before .before .before .before .before .before .before .before .before .before .before .before .before .before .before .args .ram .now) (c .before .before .before .before .before .before .before .before .before .before .before .before .before .before .before .args .ledger .now) (c .before .before .before .before .do-map .ensures),
+  answered (c .before .before .before .before .do-map .ensures),
   (
-    λ _. map-effect (c .before .before .before .before .before .before .before .before .before .before .before .before .before .before .before .args .ram .now) (c .before .before .before .before .before .before .before .before .before .before .before .before .before .before .before .args .ledger .now) (c .before .before .before .before .before .before .before .before .before .before .before .before .before .before .before .pre) _ _ (c .before .before .before .before .before .before .before .before .before .before .before .before .before .before .before .args .f) (c .before .before .before .before .before .before .before .before .before .before .before .before .before .before .before .args .g) (c .before .before .before .before .before .before .before .before .before .before .before .before .before .before .before .args .a) (c .before .before .before .before .before .before .before .before .before .before .before .before .before .before .before .args .r) (c .before .before .before .before .do-map .ensures),
-    λ _. map-found (c .before .before .before .before .before .before .before .before .before .before .before .before .before .before .before .args .ram .now) (c .before .before .before .before .before .before .before .before .before .before .before .before .before .before .before .args .ledger .now) (c .before .before .before .before .before .before .before .before .before .before .before .before .before .before .before .pre) _ _ (c .before .before .before .before .before .before .before .before .before .before .before .before .before .before .before .args .f) (c .before .before .before .before .before .before .before .before .before .before .before .before .before .before .before .args .g) (c .before .before .before .before .before .before .before .before .before .before .before .before .before .before .before .args .a) (c .before .before .before .before .before .before .before .before .before .before .before .before .before .before .before .args .r) (c .before .before .before .before .do-map .ensures),
+    λ _. map-effect (c .before .before .before .before .before .before .before .before .before .before .before .before .before .before .before .pre) (c .before .before .before .before .before .before .before .before .before .before .before .before .before .before .before .args .f) (c .before .before .before .before .before .before .before .before .before .before .before .before .before .before .before .args .g) (c .before .before .before .before .before .before .before .before .before .before .before .before .before .before .before .args .a) (c .before .before .before .before .before .before .before .before .before .before .before .before .before .before .before .args .r) (c .before .before .before .before .do-map .ensures),
+    λ _. map-found (c .before .before .before .before .before .before .before .before .before .before .before .before .before .before .before .pre) (c .before .before .before .before .before .before .before .before .before .before .before .before .before .before .before .args .f) (c .before .before .before .before .before .before .before .before .before .before .before .before .before .before .before .args .g) (c .before .before .before .before .before .before .before .before .before .before .before .before .before .before .before .args .a) (c .before .before .before .before .before .before .before .before .before .before .before .before .before .before .before .args .r) (c .before .before .before .before .do-map .ensures),
   ),
 )
 

@@ -22,23 +22,18 @@ size-requires c κs = c .before .before .before .before .pre .stock
 
 returns-2 : tie.Need-returns-2
 unfolding give state-in
-returns-2 c = goes-on _ 5 _ (sym (c .before .before .before .exists .ensures) ∙ not-false _ (c .before .before .if1 .left))
-    (stops _ 4 _ (le-ltb (c .before .before .before .before .before .before .args .f) (size-of (c .before .before .before .before .before .before .args .ledger .now)) (omega (arith, c .before .size .ensures .0, c .if2 .taken))))
+returns-2 c = (goes-on _ 5 _ (sym (c .before .before .before .exists .ensures) ∙ not-false _ (c .before .before .if1 .left))) (stops _ 4 _ (le-ltb (c .before .before .before .before .before .before .args .f) (size-of (c .before .before .before .before .before .before .args .ledger .now)) (omega (arith, c .before .size .ensures .0, c .if2 .taken))))
 
 is-free-requires : tie.Need-is-free-requires
-is-free-requires c κs = (c .before .before .before .before .before .before .pre .stock, omega (arith, c .before .size .ensures .0, c .if2 .left))
+is-free-requires c κs = (c .before .before .before .before .before .before .pre .stock, (omega (arith, c .before .size .ensures .0, c .if2 .left)))
 
 returns-3 : tie.Need-returns-3
 unfolding give state-in
-returns-3 c = goes-on _ 5 _ (sym (c .before .before .before .before .before .exists .ensures) ∙ not-false _ (c .before .before .before .before .if1 .left))
-    (goes-on _ 4 _ (lt-ltb (c .before .before .before .before .before .before .before .before .args .f) (size-of (c .before .before .before .before .before .before .before .before .args .ledger .now)) (omega (arith, c .before .before .before .size .ensures .0, c .before .before .if2 .left)))
-    (stops _ 6 _ (sym (c .before .is-free .ensures) ∙ not-true _ (c .if3 .taken))))
+returns-3 c = (goes-on _ 5 _ (sym (c .before .before .before .before .before .exists .ensures) ∙ not-false _ (c .before .before .before .before .if1 .left))) ((goes-on _ 4 _ (lt-ltb (c .before .before .before .before .before .before .before .before .args .f) (size-of (c .before .before .before .before .before .before .before .before .args .ledger .now)) ((omega (arith, c .before .before .before .size .ensures .0, c .before .before .if2 .left))))) (stops _ 6 _ (sym (c .before .is-free .ensures) ∙ not-true _ (c .if3 .taken))))
 
 returns-4 : tie.Need-returns-4
 unfolding give state-in
-returns-4 c = goes-on _ 5 _ (sym (c .before .before .before .before .before .exists .ensures) ∙ not-false _ (c .before .before .before .before .if1 .left))
-    (goes-on _ 4 _ (lt-ltb (c .before .before .before .before .before .before .before .before .args .f) (size-of (c .before .before .before .before .before .before .before .before .args .ledger .now)) (omega (arith, c .before .before .before .size .ensures .0, c .before .before .if2 .left)))
-    (goes-on _ 6 _ (sym (c .before .is-free .ensures) ∙ not-false _ (c .if3 .left)) refl))
+returns-4 c = (goes-on _ 5 _ (sym (c .before .before .before .before .before .exists .ensures) ∙ not-false _ (c .before .before .before .before .if1 .left))) ((goes-on _ 4 _ (lt-ltb (c .before .before .before .before .before .before .before .before .args .f) (size-of (c .before .before .before .before .before .before .before .before .args .ledger .now)) ((omega (arith, c .before .before .before .size .ensures .0, c .before .before .if2 .left))))) (goes-on _ 6 _ (sym (c .before .is-free .ensures) ∙ not-false _ (c .if3 .left)) refl))
 
 pub check-give-spec : {M : Type 1} → statement M
 check-give-spec =

@@ -6,7 +6,7 @@ use Rattle.model.specs.Base.{not-true}
 use Rattle.model.specs.State.{total}
 use Rattle.model.specs.Operations.{take}
 use Rattle.ledger.specs.Layout.{size-of, count-of, shared-of, state-in}
-use borrow.Author.Tests.{not-false, lt-ltb, le-ltb}
+use borrow.Author.Tests.{not-false, lt-ltb, le-ltb, eq-eqb, ne-eqb}
 use Rattle.operation.specs.Answers.{stops, goes-on, and-left, and-right, and-both}
 use native.Mathlib.Omega.{arith}
 use Rattle.pages.proofs.check_take.Statement.{statement}
@@ -33,24 +33,21 @@ returns-3 : tie.Need-returns-3
 unfolding take state-in
 returns-3 c = (goes-on _ 5 _ (sym (c .before .before .before .before .before .exists .ensures) ∙ not-false _ (c .before .before .before .before .if1 .left))) ((goes-on _ 4 _ (lt-ltb (c .before .before .before .before .before .before .before .before .args .f) (size-of (c .before .before .before .before .before .before .before .before .args .ledger .now)) ((omega (arith, c .before .before .before .size .ensures .0, c .before .before .if2 .left))))) (stops _ 9 _ (sym (c .before .is-page-of .ensures) ∙ not-true _ (c .if3 .taken))))
 
-unmapped-requires : tie.Need-unmapped-requires
-unmapped-requires c κs = (c .before .before .before .before .before .before .before .before .pre .stock, (omega (arith, c .before .before .before .size .ensures .0, c .before .before .if2 .left)))
+uses-requires : tie.Need-uses-requires
+uses-requires c κs = (c .before .before .before .before .before .before .before .before .pre .stock, (omega (arith, c .before .before .before .size .ensures .0, c .before .before .if2 .left)))
 
 returns-4 : tie.Need-returns-4
 unfolding take state-in
-returns-4 c = (goes-on _ 5 _ (sym (c .before .before .before .before .before .before .before .exists .ensures) ∙ not-false _ (c .before .before .before .before .before .before .if1 .left))) ((goes-on _ 4 _ (lt-ltb (c .before .before .before .before .before .before .before .before .before .before .args .f) (size-of (c .before .before .before .before .before .before .before .before .before .before .args .ledger .now)) ((omega (arith, c .before .before .before .before .before .size .ensures .0, c .before .before .before .before .if2 .left))))) ((goes-on _ 9 _ (sym (c .before .before .before .is-page-of .ensures) ∙ not-false _ (c .before .before .if3 .left))) (stops _ 13 _ (and-left _ _ (sym (c .before .unmapped .ensures) ∙ not-true _ (c .if4 .taken))))))
-
-unshared-requires : tie.Need-unshared-requires
-unshared-requires c κs = (c .before .before .before .before .before .before .before .before .before .before .pre .stock, (omega (arith, c .before .before .before .before .before .size .ensures .0, c .before .before .before .before .if2 .left)))
+returns-4 c = (goes-on _ 5 _ (sym (c .before .before .before .before .before .before .before .before .exists .ensures) ∙ not-false _ (c .before .before .before .before .before .before .before .if1 .left))) ((goes-on _ 4 _ (lt-ltb (c .before .before .before .before .before .before .before .before .before .before .before .args .f) (size-of (c .before .before .before .before .before .before .before .before .before .before .before .args .ledger .now)) ((omega (arith, c .before .before .before .before .before .before .size .ensures .0, c .before .before .before .before .before .if2 .left))))) ((goes-on _ 9 _ (sym (c .before .before .before .before .is-page-of .ensures) ∙ not-false _ (c .before .before .before .if3 .left))) (stops _ 13 _ (and-left _ _ (ne-eqb (total (count-of (c .before .before .before .before .before .before .before .before .before .before .before .args .ledger .now) (c .before .before .before .before .before .before .before .before .before .before .before .args .f))) 0 (λ e. c .if4 .taken (c .before .before .uses .ensures .0 ∙ e)))))))
 
 returns-5 : tie.Need-returns-5
 unfolding take state-in
-returns-5 c = (goes-on _ 5 _ (sym (c .before .before .before .before .before .before .before .before .before .exists .ensures) ∙ not-false _ (c .before .before .before .before .before .before .before .before .if1 .left))) ((goes-on _ 4 _ (lt-ltb (c .before .before .before .before .before .before .before .before .before .before .before .before .args .f) (size-of (c .before .before .before .before .before .before .before .before .before .before .before .before .args .ledger .now)) ((omega (arith, c .before .before .before .before .before .before .before .size .ensures .0, c .before .before .before .before .before .before .if2 .left))))) ((goes-on _ 9 _ (sym (c .before .before .before .before .before .is-page-of .ensures) ∙ not-false _ (c .before .before .before .before .if3 .left))) (stops _ 13 _ (and-right (eqb (total (count-of (c .before .before .before .before .before .before .before .before .before .before .before .before .args .ledger .now) (c .before .before .before .before .before .before .before .before .before .before .before .before .args .f))) 0) _ (sym (c .before .unshared .ensures) ∙ not-true _ (c .if5 .taken))))))
+returns-5 c = (goes-on _ 5 _ (sym (c .before .before .before .before .before .before .before .before .before .before .exists .ensures) ∙ not-false _ (c .before .before .before .before .before .before .before .before .before .if1 .left))) ((goes-on _ 4 _ (lt-ltb (c .before .before .before .before .before .before .before .before .before .before .before .before .before .args .f) (size-of (c .before .before .before .before .before .before .before .before .before .before .before .before .before .args .ledger .now)) ((omega (arith, c .before .before .before .before .before .before .before .before .size .ensures .0, c .before .before .before .before .before .before .before .if2 .left))))) ((goes-on _ 9 _ (sym (c .before .before .before .before .before .before .is-page-of .ensures) ∙ not-false _ (c .before .before .before .before .before .if3 .left))) (stops _ 13 _ (and-right (eqb (total (count-of (c .before .before .before .before .before .before .before .before .before .before .before .before .before .args .ledger .now) (c .before .before .before .before .before .before .before .before .before .before .before .before .before .args .f))) 0) _ (ne-eqb (total (shared-of (c .before .before .before .before .before .before .before .before .before .before .before .before .before .args .ledger .now) (c .before .before .before .before .before .before .before .before .before .before .before .before .before .args .f))) 0 (λ e. c .if5 .taken (c .before .before .before .before .uses .ensures .1 ∙ e)))))))
 
 returns-6 : tie.Need-returns-6
 unfolding take state-in
-returns-6 c = (goes-on _ 5 _ (sym (c .before .before .before .before .before .before .before .before .before .exists .ensures) ∙ not-false _ (c .before .before .before .before .before .before .before .before .if1 .left))) ((goes-on _ 4 _ (lt-ltb (c .before .before .before .before .before .before .before .before .before .before .before .before .args .f) (size-of (c .before .before .before .before .before .before .before .before .before .before .before .before .args .ledger .now)) ((omega (arith, c .before .before .before .before .before .before .before .size .ensures .0, c .before .before .before .before .before .before .if2 .left))))) ((goes-on _ 9 _ (sym (c .before .before .before .before .before .is-page-of .ensures) ∙ not-false _ (c .before .before .before .before .if3 .left)))
-    (goes-on _ 13 _ (and-both _ _ (sym (c .before .before .before .unmapped .ensures) ∙ not-false _ (c .before .before .if4 .left)) (sym (c .before .unshared .ensures) ∙ not-false _ (c .if5 .left))) refl)))
+returns-6 c = (goes-on _ 5 _ (sym (c .before .before .before .before .before .before .before .before .before .before .exists .ensures) ∙ not-false _ (c .before .before .before .before .before .before .before .before .before .if1 .left))) ((goes-on _ 4 _ (lt-ltb (c .before .before .before .before .before .before .before .before .before .before .before .before .before .args .f) (size-of (c .before .before .before .before .before .before .before .before .before .before .before .before .before .args .ledger .now)) ((omega (arith, c .before .before .before .before .before .before .before .before .size .ensures .0, c .before .before .before .before .before .before .before .if2 .left))))) ((goes-on _ 9 _ (sym (c .before .before .before .before .before .before .is-page-of .ensures) ∙ not-false _ (c .before .before .before .before .before .if3 .left)))
+    (goes-on _ 13 _ (and-both _ _ (eq-eqb (total (count-of (c .before .before .before .before .before .before .before .before .before .before .before .before .before .args .ledger .now) (c .before .before .before .before .before .before .before .before .before .before .before .before .before .args .f))) 0 (sym (c .before .before .before .before .uses .ensures .0) ∙ c .before .before .if4 .left)) (eq-eqb (total (shared-of (c .before .before .before .before .before .before .before .before .before .before .before .before .before .args .ledger .now) (c .before .before .before .before .before .before .before .before .before .before .before .before .before .args .f))) 0 (sym (c .before .before .before .before .uses .ensures .1) ∙ c .if5 .left))) refl)))
 
 pub check-take-spec : {M : Type 1} → statement M
 check-take-spec =
@@ -62,8 +59,7 @@ check-take-spec =
     returns-2
     is-page-of-requires
     returns-3
-    unmapped-requires
+    uses-requires
     returns-4
-    unshared-requires
     returns-5
     returns-6)

@@ -2,13 +2,12 @@
 -- Check, then do.
 use mathlib.Core.Path.{_∙_, sym}
 use Rattle.operation.specs.Answers.{refused, answered}
-use Rattle.pages.specs.Give.{giving}
 use borrow.Author.Needs.{needs}
 use Rattle.pages.proofs.give.Statement.{statement}
 use Rattle.pages.proofs.give.Tie as tie
 
 check-give-requires : tie.Need-check-give-requires
-check-give-requires c κs = c .before .before .before .before .pre
+check-give-requires c κs = search needs
 
 same-length : tie.Need-same-length
 same-length c = search needs
@@ -17,7 +16,7 @@ same-length-2 : tie.Need-same-length-2
 same-length-2 c = search needs
 
 returns : tie.Need-returns
-returns c = refused (giving (c .before .before .before .before .before .before .args .f) (c .before .before .before .before .before .before .args .g)) (c .before .before .before .before .before .before .args .ram .now) (c .before .before .before .before .before .before .args .ledger .now) (c .before .before .before .before .before .before .pre) (c .before .check-give .result) (c .before .check-give .ensures) (c .if1 .taken)
+returns c = refused (c .before .before .before .before .before .before .pre) (c .before .check-give .ensures) (c .if1 .taken)
 
 do-give-requires : tie.Need-do-give-requires
 do-give-requires c κs = (c .before .before .before .before .before .before .before .before .pre, sym (c .before .before .before .check-give .ensures) ∙ c .before .before .if1 .left)
@@ -29,7 +28,7 @@ same-length-4 : tie.Need-same-length-4
 same-length-4 c = search needs
 
 returns-2 : tie.Need-returns-2
-returns-2 c = answered (giving (c .before .before .before .before .before .before .before .before .before .before .before .before .before .args .f) (c .before .before .before .before .before .before .before .before .before .before .before .before .before .args .g)) (c .before .before .before .before .before .before .before .before .before .before .before .before .before .args .ram .now) (c .before .before .before .before .before .before .before .before .before .before .before .before .before .args .ledger .now) (c .before .before .before .before .do-give .ensures)
+returns-2 c = answered (c .before .before .before .before .do-give .ensures)
 
 pub give-spec : {M : Type 1} → statement M
 give-spec =

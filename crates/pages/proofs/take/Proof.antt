@@ -2,19 +2,18 @@
 -- Check, then do.
 use mathlib.Core.Path.{_∙_, sym}
 use Rattle.operation.specs.Answers.{refused, answered}
-use Rattle.pages.specs.Take.{taking}
 use borrow.Author.Needs.{needs}
 use Rattle.pages.proofs.take.Statement.{statement}
 use Rattle.pages.proofs.take.Tie as tie
 
 check-take-requires : tie.Need-check-take-requires
-check-take-requires c κs = c .before .before .before .pre
+check-take-requires c κs = search needs
 
 same-length : tie.Need-same-length
 same-length c = search needs
 
 returns : tie.Need-returns
-returns c = refused (taking (c .before .before .before .before .before .args .f) (c .before .before .before .before .before .args .g)) (c .before .before .before .before .before .args .ram .now) (c .before .before .before .before .before .args .ledger .now) (c .before .before .before .before .before .pre) (c .before .check-take .result) (c .before .check-take .ensures) (c .if1 .taken)
+returns c = refused (c .before .before .before .before .before .pre) (c .before .check-take .ensures) (c .if1 .taken)
 
 do-take-requires : tie.Need-do-take-requires
 do-take-requires c κs = (c .before .before .before .before .before .before .pre, sym (c .before .before .check-take .ensures) ∙ c .before .if1 .left)
@@ -23,7 +22,7 @@ same-length-2 : tie.Need-same-length-2
 same-length-2 c = search needs
 
 returns-2 : tie.Need-returns-2
-returns-2 c = answered (taking (c .before .before .before .before .before .before .before .before .before .args .f) (c .before .before .before .before .before .before .before .before .before .args .g)) (c .before .before .before .before .before .before .before .before .before .args .ram .now) (c .before .before .before .before .before .before .before .before .before .args .ledger .now) (c .before .before .do-take .ensures)
+returns-2 c = answered (c .before .before .do-take .ensures)
 
 pub take-spec : {M : Type 1} → statement M
 take-spec =

@@ -24,20 +24,20 @@ become-table-requires c κs = let k = c .before .before .before .before .before 
     c .before .next .ensures .1,
     (
       c .before .next .ensures .2,
-      (guest-low (c .before .before .before .before .before .before .args .g) (grow-guest (c .before .before .before .before .before .before .args .ram .now) (c .before .before .before .before .before .before .args .ledger .now) (c .before .before .before .before .before .before .args .g) (c .before .before .before .before .before .before .args .v) (c .before .before .before .before .before .before .args .h) (c .before .before .before .before .before .before .args .t) (c .before .before .before .before .before .before .pre .0)) .1, omega arith, grow-range (c .before .before .before .before .before .before .args .ram .now) (c .before .before .before .before .before .before .args .ledger .now) (c .before .before .before .before .before .before .args .g) (c .before .before .before .before .before .before .args .v) (c .before .before .before .before .before .before .args .h) (c .before .before .before .before .before .before .args .t) (c .before .before .before .before .before .before .pre .0) (c .before .before .before .before .before .before .pre .1) (c .before .before .before .upper .result) (c .before .before .before .upper .ensures)),
+      (guest-low (c .before .before .before .before .before .before .args .g) (grow-guest (c .before .before .before .before .before .before .pre .0)) .1, omega arith, grow-range (c .before .before .before .before .before .before .pre .0) (c .before .before .before .before .before .before .pre .1) (c .before .before .before .upper .result) (c .before .before .before .upper .ensures)),
     ),
   ),
 )
 
 clear-and-link-requires : tie.Need-clear-and-link-requires
 clear-and-link-requires c κs = let few = c .before .before .before .before .before .before .before .before .before .before .before .pre .0 .sound .stock .few in
-    let k = grow-words (c .before .before .before .before .before .before .before .before .before .before .before .args .ram .now) (c .before .before .before .before .before .before .before .before .before .before .before .args .ledger .now) (c .before .before .before .before .before .before .before .before .before .before .before .args .g) (c .before .before .before .before .before .before .before .before .before .before .before .args .v) (c .before .before .before .before .before .before .before .before .before .before .before .args .h) (c .before .before .before .before .before .before .before .before .before .before .before .args .t) (c .before .before .before .before .before .before .before .before .before .before .before .pre .0) in (
-      make-placed (c .before .before .before .before .before .before .before .before .before .before .before .args .ram .now) (c .before .before .before .before .before .before .before .before .before .before .before .args .ledger .now) (c .before .before .before .before .before .before .before .before .before .before .before .args .g) (c .before .before .before .before .before .before .before .before .before .before .before .args .v) (c .before .before .before .before .before .before .before .before .before .before .before .args .h) (c .before .before .before .before .before .before .before .before .before .before .before .args .t) (c .before .before .before .before .before .before .before .before .before .before .before .pre .0) (c .before .before .before .before .before .before .before .before .before .before .before .pre .1) (c .before .before .before .before .before .before .before .before .upper .result) (c .before .before .before .before .before .before .next .result) (c .before .before .before .before .before .before .before .before .upper .ensures) (c .before .before .before .before .before .before .next .ensures .1) (c .before .before .before .before .before .before .next .ensures .2) _ (c .before .before .before .before .become-table .ensures),
+    let k = grow-words (c .before .before .before .before .before .before .before .before .before .before .before .pre .0) in (
+      make-placed (c .before .before .before .before .before .before .before .before .before .before .before .pre .0) (c .before .before .before .before .before .before .before .before .before .before .before .pre .1) (c .before .before .before .before .before .before .before .before .upper .ensures) (c .before .before .before .before .before .before .next .ensures .1) (c .before .before .before .before .before .before .next .ensures .2) (c .before .before .before .before .become-table .ensures),
       (
         c .before .before .before .before .become-table .ensures .changes .stock,
         (
           k,
-          ((omega (arith, c .before .before .before .before .before .before .next .ensures .1), within (c .before .before .before .before .before .before .before .before .before .before .before .args .ram .now) (c .before .before .before .before .before .before .before .before .before .before .before .args .ledger .now) (c .before .before .before .before .before .before .before .before .before .before .before .pre .0 .sound) (c .before .before .before .before .before .before .next .result) (c .before .before .before .before .before .before .next .ensures .1)), make-room (c .before .before .before .before .before .before .before .before .before .before .before .args .ram .now) (c .before .before .before .before .before .before .before .before .before .before .before .args .ledger .now) (c .before .before .before .before .before .before .before .before .before .before .before .args .g) (c .before .before .before .before .before .before .before .before .before .before .before .args .v) (c .before .before .before .before .before .before .before .before .before .before .before .args .h) (c .before .before .before .before .before .before .before .before .before .before .before .args .t) (c .before .before .before .before .before .before .before .before .before .before .before .pre .0) (c .before .before .before .before .before .before .before .before .before .before .before .pre .1) (c .before .before .before .before .before .before .before .before .upper .result) (c .before .before .before .before .before .before .next .result) (c .before .before .before .before .before .before .before .before .upper .ensures) (c .before .before .before .before .before .before .next .ensures .1) (c .before .before .before .before .before .before .next .ensures .2) _ (c .before .before .before .before .become-table .ensures)),
+          ((omega (arith, c .before .before .before .before .before .before .next .ensures .1), within (c .before .before .before .before .before .before .before .before .before .before .before .args .ram .now) (c .before .before .before .before .before .before .before .before .before .before .before .args .ledger .now) (c .before .before .before .before .before .before .before .before .before .before .before .pre .0 .sound) (c .before .before .before .before .before .before .next .result) (c .before .before .before .before .before .before .next .ensures .1)), make-room (c .before .before .before .before .before .before .before .before .before .before .before .pre .0) (c .before .before .before .before .before .before .before .before .before .before .before .pre .1) (c .before .before .before .before .before .before .before .before .upper .ensures) (c .before .before .before .before .before .before .next .ensures .1) (c .before .before .before .before .before .before .next .ensures .2) (c .before .before .before .before .become-table .ensures)),
         ),
       ),
     )
@@ -49,7 +49,7 @@ same-length-2 : tie.Need-same-length-2
 same-length-2 c = search needs
 
 returns : tie.Need-returns
-returns c = make-end (c .before .before .before .before .before .before .before .before .before .before .before .before .before .before .args .ram .now) (c .before .before .before .before .before .before .before .before .before .before .before .before .before .before .args .ledger .now) (c .before .before .before .before .before .before .before .before .before .before .before .before .before .before .args .g) (c .before .before .before .before .before .before .before .before .before .before .before .before .before .before .args .v) (c .before .before .before .before .before .before .before .before .before .before .before .before .before .before .args .h) (c .before .before .before .before .before .before .before .before .before .before .before .before .before .before .args .t) (c .before .before .before .before .before .before .before .before .before .before .before .before .before .before .pre .0) (c .before .before .before .before .before .before .before .before .before .before .before .before .before .before .pre .1) (c .before .before .before .before .before .before .before .before .before .before .before .upper .result) (c .before .before .before .before .before .before .before .before .before .next .result) (c .before .before .before .before .before .before .before .before .before .before .before .upper .ensures) (c .before .before .before .before .before .before .before .before .before .next .ensures .1) (c .before .before .before .before .before .before .before .before .before .next .ensures .2) _ (c .before .before .before .before .before .before .before .become-table .ensures) (c .before .before .before .before .before .before .before .before .before .next .ensures .0) _ (c .before .before .clear-and-link .ensures) (omega (arith, c .before .before .clear-and-link .kept))
+returns c = make-end (c .before .before .before .before .before .before .before .before .before .before .before .before .before .before .pre .0) (c .before .before .before .before .before .before .before .before .before .before .before .before .before .before .pre .1) (c .before .before .before .before .before .before .before .before .before .before .before .upper .ensures) (c .before .before .before .before .before .before .before .before .before .next .ensures .1) (c .before .before .before .before .before .before .before .before .before .next .ensures .2) (c .before .before .before .before .before .before .before .become-table .ensures) (c .before .before .before .before .before .before .before .before .before .next .ensures .0) _ (c .before .before .clear-and-link .ensures) (omega (arith, c .before .before .clear-and-link .kept))
 
 pub make-table-spec : {M : Type 1} → statement M
 make-table-spec =

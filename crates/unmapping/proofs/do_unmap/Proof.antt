@@ -8,20 +8,20 @@ use Rattle.unmapping.proofs.do_unmap.Statement.{statement}
 use Rattle.unmapping.proofs.do_unmap.Tie as tie
 
 store-entry-requires : tie.Need-store-entry-requires
-store-entry-requires c κs = let k = unmap-words (c .before .before .before .args .ram .now) (c .before .before .before .args .ledger .now) (c .before .before .before .pre .0) (c .before .before .before .args .a) (c .before .before .before .args .g) (c .before .before .before .args .t) (c .before .before .before .args .f) (c .before .before .before .pre .1) in
+store-entry-requires c κs = let k = unmap-words (c .before .before .before .pre .0) (c .before .before .before .pre .1) in
     (omega arith, k .0, k .1)
 
 count-requires : tie.Need-count-requires
-count-requires c κs = (c .before .before .before .before .before .before .before .pre .0 .stock, ((unmap-low (c .before .before .before .before .before .before .before .args .ram .now) (c .before .before .before .before .before .before .before .args .ledger .now) (c .before .before .before .before .before .before .before .pre .0) (c .before .before .before .before .before .before .before .args .a) (c .before .before .before .before .before .before .before .args .g) (c .before .before .before .before .before .before .before .args .t) (c .before .before .before .before .before .before .before .args .f) (c .before .before .before .before .before .before .before .pre .1)), (unmap-guest (c .before .before .before .before .before .before .before .args .ram .now) (c .before .before .before .before .before .before .before .args .ledger .now) (c .before .before .before .before .before .before .before .pre .0) (c .before .before .before .before .before .before .before .args .a) (c .before .before .before .before .before .before .before .args .g) (c .before .before .before .before .before .before .before .args .t) (c .before .before .before .before .before .before .before .args .f) (c .before .before .before .before .before .before .before .pre .1))))
+count-requires c κs = (c .before .before .before .before .before .before .before .pre .0 .stock, ((unmap-low (c .before .before .before .before .before .before .before .pre .0) (c .before .before .before .before .before .before .before .pre .1)), (unmap-guest (c .before .before .before .before .before .before .before .pre .0) (c .before .before .before .before .before .before .before .pre .1))))
 
 sub-set-count : tie.Need-sub-set-count
-sub-set-count c = (unmap-count (c .before .before .before .before .before .before .before .before .before .args .ram .now) (c .before .before .before .before .before .before .before .before .before .args .ledger .now) (c .before .before .before .before .before .before .before .before .before .pre .0) (c .before .before .before .before .before .before .before .before .before .args .a) (c .before .before .before .before .before .before .before .before .before .args .g) (c .before .before .before .before .before .before .before .before .before .args .t) (c .before .before .before .before .before .before .before .before .before .args .f) (c .before .before .before .before .before .before .before .before .before .pre .1) (c .before .count .result) (c .before .count .ensures)) .0
+sub-set-count c = (unmap-count (c .before .before .before .before .before .before .before .before .before .pre .0) (c .before .before .before .before .before .before .before .before .before .pre .1) (c .before .count .result) (c .before .count .ensures)) .0
 
 set-count-requires : tie.Need-set-count-requires
-set-count-requires c κs = (c .before .before .before .before .before .before .before .before .before .pre .0 .stock, ((unmap-low (c .before .before .before .before .before .before .before .before .before .args .ram .now) (c .before .before .before .before .before .before .before .before .before .args .ledger .now) (c .before .before .before .before .before .before .before .before .before .pre .0) (c .before .before .before .before .before .before .before .before .before .args .a) (c .before .before .before .before .before .before .before .before .before .args .g) (c .before .before .before .before .before .before .before .before .before .args .t) (c .before .before .before .before .before .before .before .before .before .args .f) (c .before .before .before .before .before .before .before .before .before .pre .1)), ((unmap-guest (c .before .before .before .before .before .before .before .before .before .args .ram .now) (c .before .before .before .before .before .before .before .before .before .args .ledger .now) (c .before .before .before .before .before .before .before .before .before .pre .0) (c .before .before .before .before .before .before .before .before .before .args .a) (c .before .before .before .before .before .before .before .before .before .args .g) (c .before .before .before .before .before .before .before .before .before .args .t) (c .before .before .before .before .before .before .before .before .before .args .f) (c .before .before .before .before .before .before .before .before .before .pre .1)), omega (arith, (unmap-count (c .before .before .before .before .before .before .before .before .before .args .ram .now) (c .before .before .before .before .before .before .before .before .before .args .ledger .now) (c .before .before .before .before .before .before .before .before .before .pre .0) (c .before .before .before .before .before .before .before .before .before .args .a) (c .before .before .before .before .before .before .before .before .before .args .g) (c .before .before .before .before .before .before .before .before .before .args .t) (c .before .before .before .before .before .before .before .before .before .args .f) (c .before .before .before .before .before .before .before .before .before .pre .1) (c .before .count .result) (c .before .count .ensures)) .1))))
+set-count-requires c κs = (c .before .before .before .before .before .before .before .before .before .pre .0 .stock, ((unmap-low (c .before .before .before .before .before .before .before .before .before .pre .0) (c .before .before .before .before .before .before .before .before .before .pre .1)), ((unmap-guest (c .before .before .before .before .before .before .before .before .before .pre .0) (c .before .before .before .before .before .before .before .before .before .pre .1)), omega (arith, (unmap-count (c .before .before .before .before .before .before .before .before .before .pre .0) (c .before .before .before .before .before .before .before .before .before .pre .1) (c .before .count .result) (c .before .count .ensures)) .1))))
 
 set-dirty-requires : tie.Need-set-dirty-requires
-set-dirty-requires c κs = (c .before .before .before .set-count .ensures .stock, (guest-low (c .before .before .before .before .before .before .before .before .before .before .before .before .before .args .g) (unmap-guest (c .before .before .before .before .before .before .before .before .before .before .before .before .before .args .ram .now) (c .before .before .before .before .before .before .before .before .before .before .before .before .before .args .ledger .now) (c .before .before .before .before .before .before .before .before .before .before .before .before .before .pre .0) (c .before .before .before .before .before .before .before .before .before .before .before .before .before .args .a) (c .before .before .before .before .before .before .before .before .before .before .before .before .before .args .g) (c .before .before .before .before .before .before .before .before .before .before .before .before .before .args .t) (c .before .before .before .before .before .before .before .before .before .before .before .before .before .args .f) (c .before .before .before .before .before .before .before .before .before .before .before .before .before .pre .1)) .1, omega arith))
+set-dirty-requires c κs = (c .before .before .before .set-count .ensures .stock, (guest-low (c .before .before .before .before .before .before .before .before .before .before .before .before .before .args .g) (unmap-guest (c .before .before .before .before .before .before .before .before .before .before .before .before .before .pre .0) (c .before .before .before .before .before .before .before .before .before .before .before .before .before .pre .1)) .1, omega arith))
 
 same-length : tie.Need-same-length
 same-length c = search needs
@@ -30,8 +30,7 @@ same-length-2 : tie.Need-same-length-2
 same-length-2 c = search needs
 
 returns : tie.Need-returns
-returns c = unmap-end (c .before .before .before .before .before .before .before .before .before .before .before .before .before .before .before .before .args .ram .now) (c .before .before .before .before .before .before .before .before .before .before .before .before .before .before .before .before .args .ledger .now) (c .before .before .before .before .before .before .before .before .before .before .before .before .before .before .before .before .pre .0) (c .before .before .before .before .before .before .before .before .before .before .before .before .before .before .before .before .args .a) (c .before .before .before .before .before .before .before .before .before .before .before .before .before .before .before .before .args .g) (c .before .before .before .before .before .before .before .before .before .before .before .before .before .before .before .before .args .t) (c .before .before .before .before .before .before .before .before .before .before .before .before .before .before .before .before .args .f) (c .before .before .before .before .before .before .before .before .before .before .before .before .before .before .before .before .pre .1) (c .before .before .before .before .before .before .before .before .count .result) _ _ _ (c .before .before .before .before .before .before .before .before .before .before .before .before .store-entry .ensures) (omega (arith, c .before .before .before .before .before .before .before .before .before .before .before .before .store-entry .kept)) (c .before .before .before .before .before .before .before .before .count .ensures)
-    (c .before .before .before .before .before .before .set-count .ensures) (c .before .before .set-dirty .ensures)
+returns c = unmap-end (c .before .before .before .before .before .before .before .before .before .before .before .before .before .before .before .before .pre .0) (c .before .before .before .before .before .before .before .before .before .before .before .before .before .before .before .before .pre .1) (c .before .before .before .before .before .before .before .before .count .result) _ _ _ (c .before .before .before .before .before .before .before .before .before .before .before .before .store-entry .ensures) (omega (arith, c .before .before .before .before .before .before .before .before .before .before .before .before .store-entry .kept)) (c .before .before .before .before .before .before .before .before .count .ensures) (c .before .before .before .before .before .before .set-count .ensures) (c .before .before .set-dirty .ensures)
 
 pub do-unmap-spec : {M : Type 1} → statement M
 do-unmap-spec =

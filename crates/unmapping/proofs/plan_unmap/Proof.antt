@@ -30,23 +30,23 @@ descend-requires : tie.Need-descend-requires
 descend-requires c κs = (c .before .before .before .before .before .before .pre, ((sym (c .before .before .before .exists .ensures) ∙ not-false _ (c .before .before .if1 .left)), address-low (c .before .before .before .before .before .before .args .a) (sym (c .before .is-page-address .ensures) ∙ not-false _ (c .if2 .left))))
 
 returns-3 : tie.Need-returns-3
-returns-3 c = plan-above (c .before .before .before .before .before .before .before .before .before .args .ram .now) (c .before .before .before .before .before .before .before .before .before .args .ledger .now) (c .before .before .before .before .before .before .before .before .before .pre) (c .before .before .before .before .before .before .before .before .before .args .a) (c .before .before .before .before .before .before .before .before .before .args .g) (sym (c .before .before .before .before .before .before .exists .ensures) ∙ not-false _ (c .before .before .before .before .before .if1 .left)) (sym (c .before .before .before .before .is-page-address .ensures) ∙ not-false _ (c .before .before .before .if2 .left)) (c .before .before .descend .result .height) (c .before .before .descend .result .table) (c .before .before .descend .ensures) (c .if3 .taken)
+returns-3 c = plan-above (c .before .before .before .before .before .before .before .before .before .pre) (c .before .before .before .before .before .before .before .before .before .args .a) (c .before .before .before .before .before .before .before .before .before .args .g) (sym (c .before .before .before .before .before .before .exists .ensures) ∙ not-false _ (c .before .before .before .before .before .if1 .left)) (sym (c .before .before .before .before .is-page-address .ensures) ∙ not-false _ (c .before .before .before .if2 .left)) (c .before .before .descend .ensures) (c .if3 .taken)
 
 entry-requires : tie.Need-entry-requires
-entry-requires c κs = let k = way-words (c .before .before .before .before .before .before .before .before .before .args .ram .now) (c .before .before .before .before .before .before .before .before .before .args .ledger .now) (c .before .before .before .before .before .before .before .before .before .pre) (c .before .before .before .before .before .before .before .before .before .args .g) _ (c .before .before .descend .result .height) (c .before .before .descend .result .table) (c .before .before .descend .ensures .reached) in
+entry-requires c κs = let k = way-words (c .before .before .before .before .before .before .before .before .before .pre) (c .before .before .descend .ensures .reached) in
     (omega arith, k .0, k .1)
 
 returns-4 : tie.Need-returns-4
-returns-4 c = plan-empty (c .before .before .before .before .before .before .before .before .before .before .before .args .ram .now) (c .before .before .before .before .before .before .before .before .before .before .before .args .ledger .now) (c .before .before .before .before .before .before .before .before .before .before .before .pre) (c .before .before .before .before .before .before .before .before .before .before .before .args .a) (c .before .before .before .before .before .before .before .before .before .before .before .args .g) (sym (c .before .before .before .before .before .before .before .before .exists .ensures) ∙ not-false _ (c .before .before .before .before .before .before .before .if1 .left)) (sym (c .before .before .before .before .before .before .is-page-address .ensures) ∙ not-false _ (c .before .before .before .before .before .if2 .left)) (c .before .before .before .before .descend .result .height) (c .before .before .before .before .descend .result .table) (c .before .before .before .before .descend .ensures) (c .before .before .if3 .left) (c .before .entry .result) (c .before .entry .ensures) (c .if4 .taken)
+returns-4 c = plan-empty (c .before .before .before .before .before .before .before .before .before .before .before .pre) (c .before .before .before .before .before .before .before .before .before .before .before .args .a) (c .before .before .before .before .before .before .before .before .before .before .before .args .g) (sym (c .before .before .before .before .before .before .before .before .exists .ensures) ∙ not-false _ (c .before .before .before .before .before .before .before .if1 .left)) (sym (c .before .before .before .before .before .before .is-page-address .ensures) ∙ not-false _ (c .before .before .before .before .before .if2 .left)) (c .before .before .before .before .descend .ensures) (c .before .before .if3 .left) (c .before .entry .result) (c .before .entry .ensures) (c .if4 .taken)
 
 first-requires : tie.Need-first-requires
 first-requires c κs = c .before .before .before .before .before .before .before .before .before .before .before .pre .stock
 
 sub-t12 : tie.Need-sub-t12
-sub-t12 c = (plan-slot (c .before .before .before .before .before .before .before .before .before .before .before .before .args .ram .now) (c .before .before .before .before .before .before .before .before .before .before .before .before .args .ledger .now) (c .before .before .before .before .before .before .before .before .before .before .before .before .pre) (c .before .before .before .before .before .before .before .before .before .before .before .before .args .a) (c .before .before .before .before .before .before .before .before .before .before .before .before .args .g) (sym (c .before .before .before .before .before .before .before .before .before .exists .ensures) ∙ not-false _ (c .before .before .before .before .before .before .before .before .if1 .left)) (sym (c .before .before .before .before .before .before .before .is-page-address .ensures) ∙ not-false _ (c .before .before .before .before .before .before .if2 .left)) (c .before .before .before .before .before .descend .result .height) (c .before .before .before .before .before .descend .result .table) (c .before .before .before .before .before .descend .ensures) (c .before .before .before .if3 .left) (c .before .before .entry .result) (c .before .before .entry .ensures) (c .before .if4 .left) (c .first .result) (c .first .ensures)) .0
+sub-t12 c = (plan-slot (c .before .before .before .before .before .before .before .before .before .before .before .before .pre) (c .before .before .before .before .before .before .before .before .before .before .before .before .args .a) (c .before .before .before .before .before .before .before .before .before .before .before .before .args .g) (sym (c .before .before .before .before .before .before .before .before .before .exists .ensures) ∙ not-false _ (c .before .before .before .before .before .before .before .before .if1 .left)) (sym (c .before .before .before .before .before .before .before .is-page-address .ensures) ∙ not-false _ (c .before .before .before .before .before .before .if2 .left)) (c .before .before .before .before .before .descend .ensures) (c .before .before .before .if3 .left) (c .before .before .entry .result) (c .before .before .entry .ensures) (c .before .if4 .left) (c .first .result) (c .first .ensures)) .0
 
 returns-5 : tie.Need-returns-5
-returns-5 c = (plan-slot (c .before .before .before .before .before .before .before .before .before .before .before .before .args .ram .now) (c .before .before .before .before .before .before .before .before .before .before .before .before .args .ledger .now) (c .before .before .before .before .before .before .before .before .before .before .before .before .pre) (c .before .before .before .before .before .before .before .before .before .before .before .before .args .a) (c .before .before .before .before .before .before .before .before .before .before .before .before .args .g) (sym (c .before .before .before .before .before .before .before .before .before .exists .ensures) ∙ not-false _ (c .before .before .before .before .before .before .before .before .if1 .left)) (sym (c .before .before .before .before .before .before .before .is-page-address .ensures) ∙ not-false _ (c .before .before .before .before .before .before .if2 .left)) (c .before .before .before .before .before .descend .result .height) (c .before .before .before .before .before .descend .result .table) (c .before .before .before .before .before .descend .ensures) (c .before .before .before .if3 .left) (c .before .before .entry .result) (c .before .before .entry .ensures) (c .before .if4 .left) (c .first .result) (c .first .ensures)) .1
+returns-5 c = (plan-slot (c .before .before .before .before .before .before .before .before .before .before .before .before .pre) (c .before .before .before .before .before .before .before .before .before .before .before .before .args .a) (c .before .before .before .before .before .before .before .before .before .before .before .before .args .g) (sym (c .before .before .before .before .before .before .before .before .before .exists .ensures) ∙ not-false _ (c .before .before .before .before .before .before .before .before .if1 .left)) (sym (c .before .before .before .before .before .before .before .is-page-address .ensures) ∙ not-false _ (c .before .before .before .before .before .before .if2 .left)) (c .before .before .before .before .before .descend .ensures) (c .before .before .before .if3 .left) (c .before .before .entry .result) (c .before .before .entry .ensures) (c .before .if4 .left) (c .first .result) (c .first .ensures)) .1
 
 pub plan-unmap-spec : {M : Type 1} → statement M
 plan-unmap-spec =

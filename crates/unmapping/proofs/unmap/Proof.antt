@@ -4,7 +4,7 @@ use mathlib.Core.Path.{subst}
 use Rattle.ledger.specs.Layout.{state-of}
 use Rattle.descent.specs.declared.Plan.{Plan}
 use Rattle.operation.specs.Answers.{answered, plan-refused}
-use Rattle.unmapping.specs.Unmap.{unmapping, UnmapPlan, unmap-nonzero, unmap-effect, unmap-found}
+use Rattle.unmapping.specs.Unmap.{UnmapPlan, unmap-nonzero, unmap-effect, unmap-found}
 use borrow.Author.Needs.{needs}
 use Rattle.unmapping.proofs.unmap.Statement.{statement}
 use Rattle.unmapping.proofs.unmap.Tie as tie
@@ -28,13 +28,7 @@ same-length-2 : tie.Need-same-length-2
 same-length-2 c = search needs
 
 returns : tie.Need-returns
-returns c = (
-  plan-refused (unmapping (c .before .before .before .before .before .before .before .before .args .a) (c .before .before .before .before .before .before .before .before .args .g)) (c .before .before .before .before .before .before .before .before .args .ram .now) (c .before .before .before .before .before .before .before .before .args .ledger .now) _ (c .before .before .before .before .before .before .before .before .pre) (subst (λ (p : Plan). UnmapPlan (state-of (c .before .before .before .before .before .before .before .before .args .ram .now) (c .before .before .before .before .before .before .before .before .args .ledger .now)) (c .before .before .before .before .before .before .before .before .args .a) (c .before .before .before .before .before .before .before .before .args .g) p) (c .before .plan .given .1) (c .before .before .before .plan-unmap .ensures)),
-  (
-    λ z. absurd (unmap-nonzero (state-of (c .before .before .before .before .before .before .before .before .args .ram .now) (c .before .before .before .before .before .before .before .before .args .ledger .now)) (c .before .before .before .before .before .before .before .before .args .g) (c .before .before .before .before .before .before .before .before .args .a) _ (subst (λ (p : Plan). UnmapPlan (state-of (c .before .before .before .before .before .before .before .before .args .ram .now) (c .before .before .before .before .before .before .before .before .args .ledger .now)) (c .before .before .before .before .before .before .before .before .args .a) (c .before .before .before .before .before .before .before .before .args .g) p) (c .before .plan .given .1) (c .before .before .before .plan-unmap .ensures)) z),
-    λ z. absurd (unmap-nonzero (state-of (c .before .before .before .before .before .before .before .before .args .ram .now) (c .before .before .before .before .before .before .before .before .args .ledger .now)) (c .before .before .before .before .before .before .before .before .args .g) (c .before .before .before .before .before .before .before .before .args .a) _ (subst (λ (p : Plan). UnmapPlan (state-of (c .before .before .before .before .before .before .before .before .args .ram .now) (c .before .before .before .before .before .before .before .before .args .ledger .now)) (c .before .before .before .before .before .before .before .before .args .a) (c .before .before .before .before .before .before .before .before .args .g) p) (c .before .plan .given .1) (c .before .before .before .plan-unmap .ensures)) z),
-  ),
-)
+returns c = (plan-refused (c .before .before .before .before .before .before .before .before .pre) (subst (λ (p : Plan). UnmapPlan (state-of (c .before .before .before .before .before .before .before .before .args .ram .now) (c .before .before .before .before .before .before .before .before .args .ledger .now)) (c .before .before .before .before .before .before .before .before .args .a) (c .before .before .before .before .before .before .before .before .args .g) p) (c .before .plan .given .1) (c .before .before .before .plan-unmap .ensures)), (λ z. absurd (unmap-nonzero _ _ _ _ (subst (λ (p : Plan). UnmapPlan (state-of (c .before .before .before .before .before .before .before .before .args .ram .now) (c .before .before .before .before .before .before .before .before .args .ledger .now)) (c .before .before .before .before .before .before .before .before .args .a) (c .before .before .before .before .before .before .before .before .args .g) p) (c .before .plan .given .1) (c .before .before .before .plan-unmap .ensures)) z), λ z. absurd (unmap-nonzero _ _ _ _ (subst (λ (p : Plan). UnmapPlan (state-of (c .before .before .before .before .before .before .before .before .args .ram .now) (c .before .before .before .before .before .before .before .before .args .ledger .now)) (c .before .before .before .before .before .before .before .before .args .a) (c .before .before .before .before .before .before .before .before .args .g) p) (c .before .plan .given .1) (c .before .before .before .plan-unmap .ensures)) z)))
 
 same-length-3 : tie.Need-same-length-3
 same-length-3 c = search needs
@@ -43,13 +37,7 @@ same-length-4 : tie.Need-same-length-4
 same-length-4 c = search needs
 
 returns-2 : tie.Need-returns-2
-returns-2 c = (
-  answered (unmapping (c .before .before .before .before .before .before .before .before .before .before .before .before .before .before .before .args .a) (c .before .before .before .before .before .before .before .before .before .before .before .before .before .before .before .args .g)) (c .before .before .before .before .before .before .before .before .before .before .before .before .before .before .before .args .ram .now) (c .before .before .before .before .before .before .before .before .before .before .before .before .before .before .before .args .ledger .now) (c .before .before .before .before .do-unmap .ensures),
-  (
-    λ _. unmap-effect (c .before .before .before .before .before .before .before .before .before .before .before .before .before .before .before .args .ram .now) (c .before .before .before .before .before .before .before .before .before .before .before .before .before .before .before .args .ledger .now) (c .before .before .before .before .before .before .before .before .before .before .before .before .before .before .before .pre) _ _ (c .before .before .before .before .before .before .before .before .before .before .before .before .before .before .before .args .a) (c .before .before .before .before .before .before .before .before .before .before .before .before .before .before .before .args .g) (c .before .before .before .before .do-unmap .ensures),
-    λ _. unmap-found (c .before .before .before .before .before .before .before .before .before .before .before .before .before .before .before .args .ram .now) (c .before .before .before .before .before .before .before .before .before .before .before .before .before .before .before .args .ledger .now) (c .before .before .before .before .before .before .before .before .before .before .before .before .before .before .before .pre) _ _ (c .before .before .before .before .before .before .before .before .before .before .before .before .before .before .before .args .a) (c .before .before .before .before .before .before .before .before .before .before .before .before .before .before .before .args .g) (c .before .before .before .before .do-unmap .ensures),
-  ),
-)
+returns-2 c = (answered (c .before .before .before .before .do-unmap .ensures), (λ _. unmap-effect (c .before .before .before .before .before .before .before .before .before .before .before .before .before .before .before .pre) (c .before .before .before .before .before .before .before .before .before .before .before .before .before .before .before .args .a) (c .before .before .before .before .before .before .before .before .before .before .before .before .before .before .before .args .g) (c .before .before .before .before .do-unmap .ensures), λ _. unmap-found (c .before .before .before .before .before .before .before .before .before .before .before .before .before .before .before .pre) (c .before .before .before .before .before .before .before .before .before .before .before .before .before .before .before .args .a) (c .before .before .before .before .before .before .before .before .before .before .before .before .before .before .before .args .g) (c .before .before .before .before .do-unmap .ensures)))
 
 pub unmap-spec : {M : Type 1} → statement M
 unmap-spec =

@@ -19,7 +19,7 @@ abbrev μ-loop : tie.MeasureT-loop
 μ-loop ledger₀ f g₀ ledger g = guests - g
 
 loop-holds : tie.Need-loop-holds Inv-loop μ-loop
-loop-holds c = (omega arith, unshared-none (c .before .args .ledger .now) (c .before .pre .0) (c .before .args .f) (c .before .pre .1), refl)
+loop-holds c = (omega arith, unshared-none _ (c .before .pre .0) _ (c .before .pre .1), refl)
 
 add-g : tie.Need-add-g Inv-loop μ-loop
 add-g c = search needs
@@ -28,7 +28,7 @@ set-share-requires : tie.Need-set-share-requires Inv-loop μ-loop
 set-share-requires c κs = (
   c .before .before .loop .inv .1 .stock,
   (
-    unshared-low (c .before .before .before .before .args .ledger .now) (c .before .before .before .before .pre .0) (c .before .before .before .before .args .f) (c .before .before .before .before .pre .1) (c .before .before .loop .g) (c .before .before .loop .ledger) (c .before .before .loop .inv .1),
+    unshared-low (c .before .before .before .before .args .ledger .now) (c .before .before .before .before .pre .0) (c .before .before .before .before .args .f) (c .before .before .before .before .pre .1) _ _ (c .before .before .loop .inv .1),
     (guest-is (c .before .before .loop .g + 1) (λ e. omega arith) (omega arith), omega arith),
   ),
 )
@@ -39,7 +39,7 @@ loop-less c = omega arith
 loop-again : tie.Need-loop-again Inv-loop μ-loop
 loop-again c = (
   omega arith,
-  unshared-more (c .before .before .before .before .before .before .before .args .ledger .now) (c .before .before .before .before .before .before .before .pre .0) (c .before .before .before .before .before .before .before .args .f) (c .before .before .before .before .before .before .before .pre .1) (c .before .before .before .before .before .loop .g) (c .before .before .before .before .before .loop .ledger) (c .before .before .before .before .before .loop .inv .1) _ (c .before .before .set-share .ensures),
+  unshared-more _ (c .before .before .before .before .before .before .before .pre .0) _ (c .before .before .before .before .before .before .before .pre .1) _ _ (c .before .before .before .before .before .loop .inv .1) _ (c .before .before .set-share .ensures),
   omega (arith, c .before .before .set-share .kept, c .before .before .before .before .before .loop .inv .2),
 )
 
@@ -47,7 +47,7 @@ same-length : tie.Need-same-length Inv-loop μ-loop
 same-length c = omega (arith, c .before .loop .inv .2)
 
 returns : tie.Need-returns Inv-loop μ-loop
-returns c = unshared-all (c .before .before .before .args .ledger .now) (c .before .before .before .pre .0) (c .before .before .before .args .f) (c .before .before .before .pre .1) (c .before .loop .g) (c .before .loop .ledger) (c .before .loop .inv .1) (c .before .loop .inv .0) (c .loop-test .left)
+returns c = unshared-all _ (c .before .before .before .pre .0) _ (c .before .before .before .pre .1) _ _ (c .before .loop .inv .1) (c .before .loop .inv .0) (c .loop-test .left)
 
 pub clear-shares-spec : {M : Type 1} → statement M
 clear-shares-spec =

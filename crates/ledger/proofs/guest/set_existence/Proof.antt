@@ -14,7 +14,7 @@ same-length : tie.Need-same-length
 same-length c = search needs
 
 returns : tie.Need-returns
-returns c = guest-changed (c .before .before .before .before .before .args .ledger .now) _ 0 (c .before .before .before .before .before .args .g) (c .before .before .before .before .before .args .v) (c .before .before .before .before .before .pre .0) (omega arith) (c .before .before .before .before .before .pre .1 .0) (λ w. state-existence _ _ w _ _) (c .before .before .store-of-guest .ensures)
+returns c = guest-changed _ _ 0 _ _ (c .before .before .before .before .before .pre .0) (omega arith) (c .before .before .before .before .before .pre .1 .0) (λ w. state-existence _ _ w _ _) (c .before .before .store-of-guest .ensures)
 
 pub set-existence-spec : {M : Type 1} → statement M
 set-existence-spec = tie.close (tie.spec store-of-guest-requires same-length returns)

@@ -14,7 +14,7 @@ same-length : tie.Need-same-length
 same-length c = search needs
 
 returns : tie.Need-returns
-returns c = guest-changed (c .before .before .before .before .before .args .ledger .now) _ 2 (c .before .before .before .before .before .args .g) (c .before .before .before .before .before .args .t) (c .before .before .before .before .before .pre .0) (omega arith) (c .before .before .before .before .before .pre .1 .0) (λ w. state-root _ _ w _ _) (c .before .before .store-of-guest .ensures)
+returns c = guest-changed _ _ 2 _ _ (c .before .before .before .before .before .pre .0) (omega arith) (c .before .before .before .before .before .pre .1 .0) (λ w. state-root _ _ w _ _) (c .before .before .store-of-guest .ensures)
 
 pub set-root-spec : {M : Type 1} → statement M
 set-root-spec = tie.close (tie.spec store-of-guest-requires same-length returns)

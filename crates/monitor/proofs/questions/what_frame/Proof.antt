@@ -1,9 +1,9 @@
 -- Written by tools/prove from the file answers beside it: edit that, and not this.
 -- By the number of what it is.
-use mathlib.Core.Path.{_∙_, sym}
-use Rattle.ledger.specs.Layout.{size-of, kind-of, state-in}
+use mathlib.Core.Path.{_∙_}
+use Rattle.ledger.specs.Layout.{size-of, state-in}
 use Rattle.monitor.specs.declared.FrameKind.the-variants.{Monitor, Free, Table, Draining, Page}
-use Rattle.monitor.specs.Questions.{frame-told, by-number, frame-here, sort-page}
+use Rattle.monitor.specs.Questions.{frame-told, by-number, frame-here}
 use native.Mathlib.Omega.{arith}
 use borrow.Author.Tests.{lt-ltb, lt-leb, le-ltb, eq-eqb, ne-eqb}
 use Rattle.monitor.proofs.questions.what_frame.Statement.{statement}
@@ -24,7 +24,7 @@ owner-requires c κs = (c .before .before .before .before .before .pre .stock, (
 
 returns-2 : tie.Need-returns-2
 unfolding by-number
-returns-2 c = frame-here (c .before .before .before .before .before .before .before .args .ram .now) (c .before .before .before .before .before .before .before .args .ledger .now) (c .before .before .before .before .before .before .before .args .f) (c .before .before .kind .result) (c .before .owner .result) Monitor ((omega (arith, c .before .before .before .before .size .ensures .0, c .before .before .before .if1 .left))) (c .before .before .kind .ensures) (c .before .owner .ensures) (simp (
+returns-2 c = frame-here _ _ _ _ _ Monitor ((omega (arith, c .before .before .before .before .size .ensures .0, c .before .before .before .if1 .left))) (c .before .before .kind .ensures) (c .before .owner .ensures) (simp (
   lt-ltb _ _ (c .before .before .before .if1 .left),
   lt-leb _ _ (c .before .before .before .if1 .left),
   eq-eqb _ _ (c .if2 .taken),
@@ -32,7 +32,7 @@ returns-2 c = frame-here (c .before .before .before .before .before .before .bef
 
 returns-3 : tie.Need-returns-3
 unfolding by-number
-returns-3 c = frame-here (c .before .before .before .before .before .before .before .before .args .ram .now) (c .before .before .before .before .before .before .before .before .args .ledger .now) (c .before .before .before .before .before .before .before .before .args .f) (c .before .before .before .kind .result) (c .before .before .owner .result) Free ((omega (arith, c .before .before .before .before .before .size .ensures .0, c .before .before .before .before .if1 .left))) (c .before .before .before .kind .ensures) (c .before .before .owner .ensures) (simp (
+returns-3 c = frame-here _ _ _ _ _ Free ((omega (arith, c .before .before .before .before .before .size .ensures .0, c .before .before .before .before .if1 .left))) (c .before .before .before .kind .ensures) (c .before .before .owner .ensures) (simp (
   lt-ltb _ _ (c .before .before .before .before .if1 .left),
   lt-leb _ _ (c .before .before .before .before .if1 .left),
   ne-eqb _ _ (c .before .if2 .left),
@@ -41,7 +41,7 @@ returns-3 c = frame-here (c .before .before .before .before .before .before .bef
 
 returns-4 : tie.Need-returns-4
 unfolding by-number
-returns-4 c = frame-here (c .before .before .before .before .before .before .before .before .before .args .ram .now) (c .before .before .before .before .before .before .before .before .before .args .ledger .now) (c .before .before .before .before .before .before .before .before .before .args .f) (c .before .before .before .before .kind .result) (c .before .before .before .owner .result) (Table (c .before .before .before .owner .result)) ((omega (arith, c .before .before .before .before .before .before .size .ensures .0, c .before .before .before .before .before .if1 .left))) (c .before .before .before .before .kind .ensures) (c .before .before .before .owner .ensures) (simp (
+returns-4 c = frame-here _ _ _ _ _ (Table (c .before .before .before .owner .result)) ((omega (arith, c .before .before .before .before .before .before .size .ensures .0, c .before .before .before .before .before .if1 .left))) (c .before .before .before .before .kind .ensures) (c .before .before .before .owner .ensures) (simp (
   lt-ltb _ _ (c .before .before .before .before .before .if1 .left),
   lt-leb _ _ (c .before .before .before .before .before .if1 .left),
   ne-eqb _ _ (c .before .before .if2 .left),
@@ -49,24 +49,24 @@ returns-4 c = frame-here (c .before .before .before .before .before .before .bef
   eq-eqb _ _ (c .if4 .taken),
 ))
 
-places-requires : tie.Need-places-requires
-places-requires c κs = (c .before .before .before .before .before .before .before .before .before .before .pre, ((omega (arith, c .before .before .before .before .before .before .before .size .ensures .0, c .before .before .before .before .before .before .if1 .left)), sort-page (kind-of (c .before .before .before .before .before .before .before .before .before .before .args .ledger .now) (c .before .before .before .before .before .before .before .before .before .before .args .f)) (sym (c .before .before .before .before .before .kind .ensures) ∙ c .if5 .taken)))
+uses-requires : tie.Need-uses-requires
+uses-requires c κs = (c .before .before .before .before .before .before .before .before .before .before .pre .stock, (omega (arith, c .before .before .before .before .before .before .before .size .ensures .0, c .before .before .before .before .before .before .if1 .left)))
 
 returns-5 : tie.Need-returns-5
 unfolding by-number
-returns-5 c = frame-here (c .before .before .before .before .before .before .before .before .before .before .before .args .ram .now) (c .before .before .before .before .before .before .before .before .before .before .before .args .ledger .now) (c .before .before .before .before .before .before .before .before .before .before .before .args .f) (c .before .before .before .before .before .before .kind .result) (c .before .before .before .before .before .owner .result) (Page (c .before .before .before .before .before .owner .result) (c .places .result)) ((omega (arith, c .before .before .before .before .before .before .before .before .size .ensures .0, c .before .before .before .before .before .before .before .if1 .left))) (c .before .before .before .before .before .before .kind .ensures) (c .before .before .before .before .before .owner .ensures) (simp (
+returns-5 c = frame-here _ _ _ _ _ (Page (c .before .before .before .before .before .owner .result) (c .uses .result .places)) ((omega (arith, c .before .before .before .before .before .before .before .before .size .ensures .0, c .before .before .before .before .before .before .before .if1 .left))) (c .before .before .before .before .before .before .kind .ensures) (c .before .before .before .before .before .owner .ensures) (simp (
   lt-ltb _ _ (c .before .before .before .before .before .before .before .if1 .left),
   lt-leb _ _ (c .before .before .before .before .before .before .before .if1 .left),
   ne-eqb _ _ (c .before .before .before .before .if2 .left),
   ne-eqb _ _ (c .before .before .before .if3 .left),
   ne-eqb _ _ (c .before .before .if4 .left),
   eq-eqb _ _ (c .before .if5 .taken),
-  sym (c .places .ensures),
+  c .uses .ensures .0,
 ))
 
 returns-6 : tie.Need-returns-6
 unfolding by-number
-returns-6 c = frame-here (c .before .before .before .before .before .before .before .before .before .before .args .ram .now) (c .before .before .before .before .before .before .before .before .before .before .args .ledger .now) (c .before .before .before .before .before .before .before .before .before .before .args .f) (c .before .before .before .before .before .kind .result) (c .before .before .before .before .owner .result) (Draining (c .before .before .before .before .owner .result)) ((omega (arith, c .before .before .before .before .before .before .before .size .ensures .0, c .before .before .before .before .before .before .if1 .left))) (c .before .before .before .before .before .kind .ensures) (c .before .before .before .before .owner .ensures) (simp (
+returns-6 c = frame-here _ _ _ _ _ (Draining (c .before .before .before .before .owner .result)) ((omega (arith, c .before .before .before .before .before .before .before .size .ensures .0, c .before .before .before .before .before .before .if1 .left))) (c .before .before .before .before .before .kind .ensures) (c .before .before .before .before .owner .ensures) (simp (
   lt-ltb _ _ (c .before .before .before .before .before .before .if1 .left),
   lt-leb _ _ (c .before .before .before .before .before .before .if1 .left),
   ne-eqb _ _ (c .before .before .before .if2 .left),
@@ -86,6 +86,6 @@ what-frame-spec =
     returns-2
     returns-3
     returns-4
-    places-requires
+    uses-requires
     returns-5
     returns-6)

@@ -7,13 +7,13 @@ use Rattle.monitor.proofs.start.check_set_up.Statement.{statement}
 use Rattle.monitor.proofs.start.check_set_up.Tie as tie
 
 returns : tie.Need-returns
-returns c = few-frames (c .before .args .n) (c .before .args .b) (c .before .args .k) (c .before .args .ram .now) (c .before .args .ledger .now) (c .if1 .taken)
+returns c = few-frames _ _ _ _ _ (c .if1 .taken)
 
 returns-2 : tie.Need-returns-2
-returns-2 c = many-frames (c .before .before .args .n) (c .before .before .args .b) (c .before .before .args .k) (c .before .before .args .ram .now) (c .before .before .args .ledger .now) (c .if2 .taken)
+returns-2 c = many-frames _ _ _ _ _ (c .if2 .taken)
 
 returns-3 : tie.Need-returns-3
-returns-3 c = uneven (c .before .before .before .args .n) (c .before .before .before .args .b) (c .before .before .before .args .k) (c .before .before .before .args .ram .now) (c .before .before .before .args .ledger .now) (c .if3 .taken)
+returns-3 c = uneven _ _ _ _ _ (c .if3 .taken)
 
 mul-if4 : tie.Need-mul-if4
 mul-if4 c = search needs
@@ -22,16 +22,16 @@ sub-if4 : tie.Need-sub-if4
 sub-if4 c = search needs
 
 returns-4 : tie.Need-returns-4
-returns-4 c = too-high (c .before .before .before .before .args .n) (c .before .before .before .before .args .b) (c .before .before .before .before .args .k) (c .before .before .before .before .args .ram .now) (c .before .before .before .before .args .ledger .now) (omega (arith, c .if4 .taken, c .before .before .if2 .left))
+returns-4 c = too-high _ _ _ _ _ (omega (arith, c .if4 .taken, c .before .before .if2 .left))
 
 returns-5 : tie.Need-returns-5
-returns-5 c = none-left (c .before .before .before .before .before .args .n) (c .before .before .before .before .before .args .b) (c .before .before .before .before .before .args .k) (c .before .before .before .before .before .args .ram .now) (c .before .before .before .before .before .args .ledger .now) (c .if5 .taken)
+returns-5 c = none-left _ _ _ _ _ (c .if5 .taken)
 
 mul-if6 : tie.Need-mul-if6
 mul-if6 c = search needs
 
 returns-6 : tie.Need-returns-6
-returns-6 c = bad-ram (c .before .before .before .before .before .before .args .n) (c .before .before .before .before .before .before .args .b) (c .before .before .before .before .before .before .args .k) (c .before .before .before .before .before .before .args .ram .now) (c .before .before .before .before .before .before .args .ledger .now) (c .if6 .taken)
+returns-6 c = bad-ram _ _ _ _ _ (c .if6 .taken)
 
 mul-if7 : tie.Need-mul-if7
 mul-if7 c = search needs
@@ -40,10 +40,10 @@ add-if7 : tie.Need-add-if7
 add-if7 c = search needs
 
 returns-7 : tie.Need-returns-7
-returns-7 c = bad-ledger (c .before .before .before .before .before .before .before .args .n) (c .before .before .before .before .before .before .before .args .b) (c .before .before .before .before .before .before .before .args .k) (c .before .before .before .before .before .before .before .args .ram .now) (c .before .before .before .before .before .before .before .args .ledger .now) (c .if7 .taken)
+returns-7 c = bad-ledger _ _ _ _ _ (c .if7 .taken)
 
 returns-8 : tie.Need-returns-8
-returns-8 c = fits-all (c .before .before .before .before .before .before .before .args .n) (c .before .before .before .before .before .before .before .args .b) (c .before .before .before .before .before .before .before .args .k) (c .before .before .before .before .before .before .before .args .ram .now) (c .before .before .before .before .before .before .before .args .ledger .now) (c .before .if6 .left) (c .if7 .left) (c .before .before .before .before .before .before .if1 .left) (c .before .before .before .before .before .if2 .left) (c .before .before .before .before .if3 .left) (omega (arith, c .before .before .before .if4 .left, c .before .before .before .before .before .if2 .left)) (c .before .before .if5 .left)
+returns-8 c = fits-all _ _ _ _ _ (c .before .if6 .left) (c .if7 .left) (c .before .before .before .before .before .before .if1 .left) (c .before .before .before .before .before .if2 .left) (c .before .before .before .before .if3 .left) (omega (arith, c .before .before .before .if4 .left, c .before .before .before .before .before .if2 .left)) (c .before .before .if5 .left)
 
 pub check-set-up-spec : {M : Type 1} → statement M
 check-set-up-spec =

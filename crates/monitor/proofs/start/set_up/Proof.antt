@@ -13,16 +13,16 @@ same-length : tie.Need-same-length
 same-length c = search needs
 
 returns : tie.Need-returns
-returns c = set-up-refused (c .before .before .before .before .before .args .n) (c .before .before .before .before .before .args .b) (c .before .before .before .before .before .args .k) (c .before .before .before .before .before .args .ram .now) (c .before .before .before .before .before .args .ledger .now) (c .before .check-set-up .result) (c .before .check-set-up .ensures) (c .if1 .taken)
+returns c = set-up-refused _ _ _ _ _ (c .before .check-set-up .result) (c .before .check-set-up .ensures) (c .if1 .taken)
 
 lay-out-requires : tie.Need-lay-out-requires
-lay-out-requires c κs = set-up-ready (c .before .before .before .before .before .before .args .n) (c .before .before .before .before .before .before .args .b) (c .before .before .before .before .before .before .args .k) (c .before .before .before .before .before .before .args .ram .now) (c .before .before .before .before .before .before .args .ledger .now) (sym (c .before .before .check-set-up .ensures) ∙ c .before .if1 .left)
+lay-out-requires c κs = set-up-ready _ _ _ _ _ (sym (c .before .before .check-set-up .ensures) ∙ c .before .if1 .left)
 
 same-length-2 : tie.Need-same-length-2
 same-length-2 c = search needs
 
 returns-2 : tie.Need-returns-2
-returns-2 c = set-up-end (c .before .before .before .before .before .before .before .before .before .args .n) (c .before .before .before .before .before .before .before .before .before .args .b) (c .before .before .before .before .before .before .before .before .before .args .k) (c .before .before .before .before .before .before .before .before .before .args .ram .now) (c .before .before .before .before .before .before .before .before .before .args .ledger .now) (sym (c .before .before .before .before .before .check-set-up .ensures) ∙ c .before .before .before .before .if1 .left) _ (c .before .before .lay-out .ensures)
+returns-2 c = set-up-end _ _ _ _ _ (sym (c .before .before .before .before .before .check-set-up .ensures) ∙ c .before .before .before .before .if1 .left) _ (c .before .before .lay-out .ensures)
 
 pub set-up-spec : {M : Type 1} → statement M
 set-up-spec =

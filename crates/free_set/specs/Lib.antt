@@ -1,0 +1,3 @@
+pub mod Exchange
+pub mod Moves
+pub mod Start
