@@ -15,7 +15,8 @@ use Rattle.language.specs.declared.arguments.Form.the-variants.{Plain, A
 use Rattle.language.specs.declared.Operation.{Operation}
 use Rattle.language.specs.declared.Operation.the-variants.{Create, Give, Map, Unmap, Share, Unshare, Take, Destroy, Invalidated}
 use Rattle.language.specs.declared.Command.{Command}
-use Rattle.language.specs.declared.Command.the-variants.{SetUp, StoreWord, PeekWord, WalkOne, WalkBoth, Operate, Translate, Frame, Guest, Ledger}
+use Rattle.language.specs.declared.Command.the-variants.{SetUp, StoreWord, Operate, Ask}
+use Rattle.language.specs.declared.Question.the-variants.{PeekWord, WalkOne, WalkBoth, Translate, Frame, Guest, Ledger}
 use Rattle.text.specs.Text.{ascii}
 use Rattle.text.specs.Words.{unblank, wordOf, afterWord, sameText}
 
@@ -132,11 +133,11 @@ operationWith Invalidating a = Invalidated (a 0)
 unfoldable pub commandWith : Verb → (ℕ → ℕ) → Command
 commandWith Setup a = SetUp (a 0) (a 1) (a 2)
 commandWith Word a = StoreWord (a 0) (a 1)
-commandWith Peek a = PeekWord (a 0)
-commandWith Stage2 a = WalkOne (a 0) (a 1) (a 2)
-commandWith Walk a = WalkBoth (a 0) (a 1) (a 2) (a 3) (a 4)
-commandWith Translation a = Translate (a 0) (a 1) (a 2)
-commandWith OneFrame a = Frame (a 0)
-commandWith OneGuest a = Guest (a 0)
-commandWith WholeLedger a = Ledger
+commandWith Peek a = Ask (PeekWord (a 0))
+commandWith Stage2 a = Ask (WalkOne (a 0) (a 1) (a 2))
+commandWith Walk a = Ask (WalkBoth (a 0) (a 1) (a 2) (a 3) (a 4))
+commandWith Translation a = Ask (Translate (a 0) (a 1) (a 2))
+commandWith OneFrame a = Ask (Frame (a 0))
+commandWith OneGuest a = Ask (Guest (a 0))
+commandWith WholeLedger a = Ask Ledger
 commandWith (Monitor d) a = Operate (operationWith d a)

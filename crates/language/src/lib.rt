@@ -57,16 +57,8 @@ pub enum Operation {
     },
 }
 
-pub enum Command {
-    SetUp {
-        frames: u64,
-        base: u64,
-        monitor: u64,
-    },
-    StoreWord {
-        at: u64,
-        value: u64,
-    },
+// What a command asks, and changes nothing.
+pub enum Question {
     PeekWord {
         at: u64,
     },
@@ -82,7 +74,6 @@ pub enum Command {
         access: u64,
         el: u64,
     },
-    Operate(Operation),
     Translate {
         guest: u64,
         ipa: u64,
@@ -95,6 +86,20 @@ pub enum Command {
         guest: u64,
     },
     Ledger,
+}
+
+pub enum Command {
+    SetUp {
+        frames: u64,
+        base: u64,
+        monitor: u64,
+    },
+    StoreWord {
+        at: u64,
+        value: u64,
+    },
+    Operate(Operation),
+    Ask(Question),
 }
 
 // Why a line can't be read.

@@ -3,6 +3,7 @@ ghost use mathlib.Core.Path.{_≡_};
 ghost use Rattle.language.specs.Verbs.{wordsOf, placeOf, deedOf, firstOf, deedNumbers, numbersOf, othersOf, nth, operationWith, commandWith};
 use crate::Command;
 use crate::Operation;
+use crate::Question;
 use text::words::same;
 use text::words::word_end;
 use text::words::word_start;
@@ -202,27 +203,27 @@ pub fn made(v: Verb, a: [u64; 5]) -> Command
             monitor: z,
         },
         Verb::Word => Command::StoreWord { at: x, value: y },
-        Verb::Peek => Command::PeekWord { at: x },
-        Verb::Stage2 => Command::WalkOne {
+        Verb::Peek => Command::Ask(Question::PeekWord { at: x }),
+        Verb::Stage2 => Command::Ask(Question::WalkOne {
             root: x,
             ipa: y,
             access: z,
-        },
-        Verb::Walk => Command::WalkBoth {
+        }),
+        Verb::Walk => Command::Ask(Question::WalkBoth {
             root1: x,
             root2: y,
             va: z,
             access: a[3],
             el: a[4],
-        },
-        Verb::Translation => Command::Translate {
+        }),
+        Verb::Translation => Command::Ask(Question::Translate {
             guest: x,
             ipa: y,
             access: z,
-        },
-        Verb::OneFrame => Command::Frame { frame: x },
-        Verb::OneGuest => Command::Guest { guest: x },
-        Verb::WholeLedger => Command::Ledger,
+        }),
+        Verb::OneFrame => Command::Ask(Question::Frame { frame: x }),
+        Verb::OneGuest => Command::Ask(Question::Guest { guest: x }),
+        Verb::WholeLedger => Command::Ask(Question::Ledger),
         Verb::Monitor(d) => Command::Operate(operation(d, a)),
     }
 }

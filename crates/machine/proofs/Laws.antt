@@ -25,7 +25,7 @@ use Rattle.machine.specs.declared.Outcome.{Outcome}
 use Rattle.machine.specs.declared.Reply.{Reply}
 use Rattle.machine.specs.declared.Reply.the-variants.{Done, Code}
 use Rattle.machine.specs.Operations.{operation}
-use Rattle.machine.specs.Machine.{Kept, allowedOf, inRam, inTable, ramOf, ledgerOf, outcome, machineOf, told, Says, Does, Executed}
+use Rattle.machine.specs.Machine.{Kept, allowedOf, inRam, inTable, ramOf, ledgerOf, outcome, machineOf, told, Executed}
 use Rattle.machine.specs.Laws.{ledger-within}
 use Rattle.machine.proofs.Based.{first-kept, started-so}
 
@@ -91,11 +91,6 @@ module _ (l : List ℕ) (f k : ℕ) (e : k ≡ sort (kind-of l f)) where
 
   pub drains : (k ≡ 2 → ⊥) → eqb k 3 ≡ tabled (kind-of l f)
   drains ne = sym (by-sort (kind-of l f) ∙ rw (sym e, ne-eqb k 2 ne))
-
--- a question changes nothing
-pub only : {c : Command} {m : Machine} {ram l : List ℕ} {r : Outcome} {x y : Reply} → Kept m ram l → r ≡ outcome m y → y ≡ x →
-    (Says x m ram l ram l r → Does c m ram l ram l r) → Executed c m ram l ram l r
-only {m = m} kept e q says = record { does = says (e ∙ ap (λ (z : Reply). outcome m z) q, refl, refl); kept = rw e kept }
 
 pub told-so : (m : Machine) (x y : Reply) → m .ready ≡ true → y ≡ x → y ≡ told m x
 told-so m x y h e = e ∙ rw h

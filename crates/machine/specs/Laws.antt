@@ -13,12 +13,14 @@ use Rattle.walk.specs.declared.Answer.{Answer}
 use Rattle.ledger.specs.Layout.{words-for, size-of, exists-of}
 use Rattle.language.specs.declared.Operation.{Operation}
 use Rattle.language.specs.declared.Command.{Command}
-use Rattle.language.specs.declared.Command.the-variants.{SetUp, StoreWord, PeekWord, WalkOne, WalkBoth, Operate, Translate, Frame as AskFrame, Guest as AskGuest, Ledger as AskLedger}
+use Rattle.language.specs.declared.Command.the-variants.{SetUp, StoreWord, Operate, Ask}
+use Rattle.language.specs.declared.Question.{Question}
+use Rattle.language.specs.declared.Question.the-variants.{PeekWord, WalkOne, WalkBoth, Translate, Frame as AskFrame, Guest as AskGuest, Ledger as AskLedger}
 use Rattle.machine.specs.declared.Machine.{Machine}
 use Rattle.machine.specs.declared.Outcome.{Outcome}
 use Rattle.machine.specs.declared.Reply.{Reply}
 use Rattle.machine.specs.declared.Reply.the-variants.{Done, OutsideRam, Code, Contents, Walked, Frame, Guest, Ledger, NoLedger}
-use Rattle.machine.specs.Machine.{ramOf, ledgerOf, Kept, allowedOf, inRam, outcome, told, translation, Begins, Writes, Operates, Does, Executed}
+use Rattle.machine.specs.Machine.{ramOf, ledgerOf, Kept, allowedOf, inRam, outcome, told, translation, said, Begins, Writes, Operates, Does, Executed}
 
 -- of a machine that is ready: the ledger has a row for each of its frames, and is in the lent slice
 module _ {m : Machine} {ram l : List ℕ} (k : Kept m ram l) (h : m .ready ≡ true) where
@@ -77,6 +79,16 @@ module _ (m : Machine) (r : Outcome) where
   reached true a = tt
   reached false a = tt
 
+  said-told : (ram l : List ℕ) (q : Question) → Tellable m (said q m ram l)
+  unfolding translation
+  said-told ram l (PeekWord a) = found (inRam m a) (wordAt ram (a - m .base))
+  said-told ram l (WalkOne root ipa access) = tt
+  said-told ram l (WalkBoth root1 root2 va access el) = tt
+  said-told ram l (Translate g ipa access) = ready-told _ (λ _. reached (exists-of (ledgerOf m l) g) _)
+  said-told ram l (AskFrame f) = ready-told (Frame f) (λ h. h)
+  said-told ram l (AskGuest g) = ready-told (Guest _) (λ _. tt)
+  said-told ram l AskLedger = ready-told Ledger (λ h. h)
+
   module _ (ram l ram′ l′ : List ℕ) where
     begins : (t : Bool) (n b k : ℕ) → Begins t n b k m ram l ram′ l′ r → Tellable (r .machine) (r .reply)
     begins true n b k x = rw (x .0) tt
@@ -91,17 +103,10 @@ module _ (m : Machine) (r : Outcome) where
     operates false o x = rw (x .0) tt
 
     does-tell : (c : Command) → Does c m ram l ram′ l′ r → Tellable (r .machine) (r .reply)
-    unfolding translation
     does-tell (SetUp n b k) x = begins (allowedOf (length ram / 4096) (length l) n b k) n b k x
     does-tell (StoreWord a v) x = writes (inRam m a) a v x
-    does-tell (PeekWord a) x = tells _ (found (inRam m a) (wordAt ram (a - m .base))) (x .0)
-    does-tell (WalkOne root ipa access) x = rw (x .0) tt
-    does-tell (WalkBoth root1 root2 va access el) x = rw (x .0) tt
     does-tell (Operate o) x = operates (m .ready) o x
-    does-tell (Translate g ipa access) x = tells _ (ready-told _ (λ _. reached (exists-of (ledgerOf m l) g) _)) (x .0)
-    does-tell (AskFrame f) x = tells _ (ready-told (Frame f) (λ h. h)) (x .0)
-    does-tell (AskGuest g) x = tells _ (ready-told (Guest _) (λ _. tt)) (x .0)
-    does-tell AskLedger x = tells _ (ready-told Ledger (λ h. h)) (x .0)
+    does-tell (Ask q) x = tells _ (said-told ram l q) (x .0)
 
 pub tellable : {c : Command} {m : Machine} {ram l ram′ l′ : List ℕ} {r : Outcome} → Executed c m ram l ram′ l′ r → Tellable (r .machine) (r .reply)
 tellable {c} {m} {ram} {l} {ram′} {l′} {r} x = does-tell m r ram l ram′ l′ c (x .does)

@@ -17,7 +17,9 @@ use Rattle.monitor.specs.Questions.{guest-told}
 use Rattle.machine.specs.Operations.{operation}
 use Rattle.language.specs.declared.Operation.{Operation}
 use Rattle.language.specs.declared.Command.{Command}
-use Rattle.language.specs.declared.Command.the-variants.{SetUp, StoreWord, PeekWord, WalkOne, WalkBoth, Operate, Translate, Frame as AskFrame, Guest as AskGuest, Ledger as AskLedger}
+use Rattle.language.specs.declared.Command.the-variants.{SetUp, StoreWord, Operate, Ask}
+use Rattle.language.specs.declared.Question.{Question}
+use Rattle.language.specs.declared.Question.the-variants.{PeekWord, WalkOne, WalkBoth, Translate, Frame as AskFrame, Guest as AskGuest, Ledger as AskLedger}
 use Rattle.machine.specs.declared.Machine.{Machine}
 use Rattle.machine.specs.declared.Outcome.{Outcome}
 use Rattle.machine.specs.declared.Reply.{Reply}
@@ -109,17 +111,20 @@ translation m ram l g ipa access =
 abbrev pub told : Machine → Reply → Reply
 told m x = cond (m .ready) x NoLedger
 
+abbrev pub said : Question → Machine → (ram ledger : List ℕ) → Reply
+said (PeekWord a) m ram l = peeked m ram a
+said (WalkOne root ipa access) m ram l = walkedOne m ram root ipa access
+said (WalkBoth root1 root2 va access el) m ram l = walkedBoth m ram root1 root2 va access el
+said (Translate g ipa access) m ram l = told m (translation m ram l g ipa access)
+said (AskFrame f) m ram l = told m (Frame f)
+said (AskGuest g) m ram l = told m (Guest (guest-told (state-of (ramOf m ram) (ledgerOf m l)) g))
+said AskLedger m ram l = told m Ledger
+
 abbrev pub Does : Command → Machine → (ram ledger ram′ ledger′ : List ℕ) → Outcome → Type 0
 Does (SetUp n b k) m ram l ram′ l′ r = Begins (allowedOf (length ram / 4096) (length l) n b k) n b k m ram l ram′ l′ r
 Does (StoreWord a v) m ram l ram′ l′ r = Writes (inRam m a) a v m ram l ram′ l′ r
-Does (PeekWord a) m ram l ram′ l′ r = Says (peeked m ram a) m ram l ram′ l′ r
-Does (WalkOne root ipa access) m ram l ram′ l′ r = Says (walkedOne m ram root ipa access) m ram l ram′ l′ r
-Does (WalkBoth root1 root2 va access el) m ram l ram′ l′ r = Says (walkedBoth m ram root1 root2 va access el) m ram l ram′ l′ r
 Does (Operate o) m ram l ram′ l′ r = Operates (m .ready) o m ram l ram′ l′ r
-Does (Translate g ipa access) m ram l ram′ l′ r = Says (told m (translation m ram l g ipa access)) m ram l ram′ l′ r
-Does (AskFrame f) m ram l ram′ l′ r = Says (told m (Frame f)) m ram l ram′ l′ r
-Does (AskGuest g) m ram l ram′ l′ r = Says (told m (Guest (guest-told (state-of (ramOf m ram) (ledgerOf m l)) g))) m ram l ram′ l′ r
-Does AskLedger m ram l ram′ l′ r = Says (told m Ledger) m ram l ram′ l′ r
+Does (Ask q) m ram l ram′ l′ r = Says (said q m ram l) m ram l ram′ l′ r
 
 -- what a command did: the answer and both slices after it; and what the next command counts on
 pub record Executed (c : Command) (m : Machine) (ram ledger ram′ ledger′ : List ℕ) (r : Outcome) : Type 0 where

@@ -1,7 +1,7 @@
 // The machine of a script: a command is answered on RAM and a ledger that the caller lends.
 ghost use mathlib.Core.Path.{_≡_};
 ghost use mathlib.Core.Bool.{false};
-ghost use Rattle.machine.specs.Machine.{outcome, told, Kept, Executed};
+ghost use Rattle.machine.specs.Machine.{Kept, Executed};
 use language::Command;
 use monitor::GuestKind;
 use walk::Answer;
@@ -46,23 +46,6 @@ pub fn no_machine() -> Machine
     }
 }
 
-fn keeping(machine: Machine, reply: Reply) -> Outcome
-    ensures { λ r. ⌜ r ≡ outcome machine reply ⌝ }
-{
-    Outcome { machine, reply }
-}
-
-// What is asked of the ledger is answered where the machine is ready.
-fn told(m: Machine, reply: Reply) -> Reply
-    ensures { λ r. ⌜ r ≡ told m reply ⌝ }
-{
-    let ready = m.ready;
-    if ready {
-        return reply;
-    }
-    Reply::NoLedger
-}
-
 pub fn execute(c: Command, m: Machine, ram: &mut [u8], ledger: &mut [u32]) -> Outcome
     requires { ⌜ Kept m (now ram) (now ledger) ⌝ }
     ensures { λ r. ⌜ Executed c m (now (ram .entry)) (now (ledger .entry)) (now (ram .exit)) (now (ledger .exit)) r ⌝ }
@@ -74,26 +57,10 @@ pub fn execute(c: Command, m: Machine, ram: &mut [u8], ledger: &mut [u32]) -> Ou
             monitor,
         } => start::set_up(m, ram, ledger, frames, base, monitor),
         Command::StoreWord { at, value } => words::store_word(m, ram, ledger, at, value),
-        Command::PeekWord { at } => keeping(m, words::peek_word(m, ram, at)),
-        Command::WalkOne { root, ipa, access } => {
-            keeping(m, questions::walk_one(m, ram, root, ipa, access))
-        }
-        Command::WalkBoth {
-            root1,
-            root2,
-            va,
-            access,
-            el,
-        } => keeping(
-            m,
-            questions::walk_both(m, ram, root1, root2, va, access, el),
-        ),
         Command::Operate(o) => operations::operate(o, m, ram, ledger),
-        Command::Translate { guest, ipa, access } => {
-            keeping(m, questions::translate(m, ram, ledger, guest, ipa, access))
-        }
-        Command::Frame { frame } => keeping(m, told(m, Reply::Frame(frame))),
-        Command::Guest { guest } => keeping(m, questions::what_guest(m, ram, ledger, guest)),
-        Command::Ledger => keeping(m, told(m, Reply::Ledger)),
+        Command::Ask(q) => Outcome {
+            machine: m,
+            reply: questions::answer(q, m, ram, ledger),
+        },
     }
 }

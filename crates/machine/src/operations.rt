@@ -45,8 +45,7 @@ pub fn operate(o: Operation, m: Machine, ram: &mut [u8], ledger: &mut [u32]) -> 
     requires { ⌜ Kept m (now ram) (now ledger) ⌝ }
     ensures { λ r. ⌜ Executed (Operate o) m (now (ram .entry)) (now (ledger .entry)) (now (ram .exit)) (now (ledger .exit)) r ⌝ }
 {
-    let ready = m.ready;
-    if ready {
+    if m.ready {
         let n = (4096 * m.frames) as usize;
         let w = (144 + 16 * m.frames) as usize;
         let k = answer(o, &mut ram[..n], &mut ledger[..w]);

@@ -60,8 +60,7 @@ fn stays_ready(m: Machine, ram: &[u8], ledger: &[u32], a: u64) -> bool
     requires { ⌜ inRam m a ≡ true ⌝ }
     ensures { λ r. ⌜ r ≡ (m .ready && not (inTable m (now (ledger .entry)) a)) ⌝ }
 {
-    let ready = m.ready;
-    if ready {
+    if m.ready {
         let w = (144 + 16 * m.frames) as usize;
         if in_table(&ledger[..w], a - m.base) {
             return false;

@@ -3,7 +3,7 @@ ghost use mathlib.Core.Path.{_≡_};
 ghost use Prim.Native.Nat.{_+_, _/_, _≤_};
 ghost use lib.ListN.{length};
 ghost use Rattle.script.specs.Answers.{Room};
-ghost use Rattle.pageledger.specs.Ready.{Ready, Goes};
+ghost use Rattle.pageledger.specs.Ready.{Ready};
 use libc::STDIN_FILENO;
 use libc::STDOUT_FILENO;
 use machine::Machine;
@@ -13,11 +13,6 @@ struct State {
     machine: Machine,
     line: usize,
     out: usize,
-}
-
-enum Turn {
-    More(State),
-    End,
 }
 
 fn write_out(out: &[u8], n: usize)
@@ -46,15 +41,12 @@ fn end_line(s: State, line: &[u8], ram: &mut [u8], ledger: &mut [u32], out: &mut
 {
     let n = s.line;
     let at = s.out;
-    let machine = s.machine;
-    let done = script::answer_line(&line[..n], machine, ram, ledger, &mut out[at..]);
-    let after = done.machine;
-    let end = at + done.printed;
-    let left = flushed(out, ram, end);
+    let done = script::answer_line(&line[..n], s.machine, ram, ledger, &mut out[at..]);
+    let machine = done.machine;
     State {
-        machine: after,
+        machine,
         line: 0,
-        out: left,
+        out: flushed(out, ram, at + done.printed),
     }
 }
 
@@ -113,34 +105,10 @@ fn take_all(
     t
 }
 
-// The last line may have no line end.
-fn finish(s: State, line: &mut [u8], ram: &mut [u8], ledger: &mut [u32], out: &mut [u8])
-    requires { ⌜ Ready s (length (now line)) (now ram) (now ledger) (length (now out)) ⌝ }
-{
-    if 0 < s.line {
-        let t = end_line(s, line, ram, ledger, out);
-        write_out(out, t.out);
-        return;
-    }
-    write_out(out, s.out);
-}
-
-fn read_some(s: State, line: &mut [u8], ram: &mut [u8], ledger: &mut [u32], out: &mut [u8]) -> Turn
-    requires { ⌜ Ready s (length (now line)) (now ram) (now ledger) (length (now out)) ⌝ }
-    ensures { λ r. ⌜ Goes r (length (now (line .entry))) (now (ram .exit)) (now (ledger .exit)) (length (now (out .entry))) ⌝ }
-{
-    let mut chunk = io::large_buffer();
-    let got = io::count(libc::read(STDIN_FILENO, &mut chunk), &chunk);
-    if got == 0 {
-        finish(s, line, ram, ledger, out);
-        return Turn::End;
-    }
-    Turn::More(take_all(s, &chunk[..got], line, ram, ledger, out))
-}
-
 // A proved loop has to end, and nothing says that the input does: the turns are counted down from a number that no run uses up.
-fn serve(line: &mut [u8], ram: &mut [u8], ledger: &mut [u32], out: &mut [u8])
+fn serve(line: &mut [u8], ram: &mut [u8], ledger: &mut [u32], out: &mut [u8]) -> State
     requires { ⌜ Room (length (now ram)) (length (now out)) ⌝ }
+    ensures { λ r. ⌜ Ready r (length (now (line .entry))) (now (ram .exit)) (now (ledger .exit)) (length (now (out .entry))) ⌝ }
 {
     let mut s = State {
         machine: machine::no_machine(),
@@ -149,17 +117,29 @@ fn serve(line: &mut [u8], ram: &mut [u8], ledger: &mut [u32], out: &mut [u8])
     };
     let mut turns = u64::MAX;
     while 0 < turns {
-        match read_some(s, line, ram, ledger, out) {
-            Turn::More(t) => s = t,
-            Turn::End => return,
+        let mut chunk = io::large_buffer();
+        let got = io::count(libc::read(STDIN_FILENO, &mut chunk), &chunk);
+        if got == 0 {
+            return s;
         }
+        s = take_all(s, &chunk[..got], line, ram, ledger, out);
         turns -= 1;
     }
+    s
+}
+
+// The last line may have no line end; where there is none, nothing is printed for it.
+fn finish(s: State, line: &[u8], ram: &mut [u8], ledger: &mut [u32], out: &mut [u8])
+    requires { ⌜ Ready s (length (now line)) (now ram) (now ledger) (length (now out)) ⌝ }
+{
+    let t = end_line(s, line, ram, ledger, out);
+    write_out(out, t.out);
 }
 
 fn run(ram: &mut [u8; 4194304], ledger: &mut [u32; 16528], out: &mut [u8; 524288]) {
     let mut line = io::buffer();
-    serve(&mut line, ram, ledger, out);
+    let s = serve(&mut line, ram, ledger, out);
+    finish(s, &line, ram, ledger, out);
 }
 
 // 1,024 frames, their ledger of 144 + 16 x 1,024 words, and an output that holds what two lines print.

@@ -28,12 +28,14 @@ unfoldable pub faultText : Kind → ℕ → ℕ → List ℕ
 faultText k stage level =
     kindText k ++ (ascii " stage " ++ decimalOf stage) ++ (ascii " level " ++ decimalOf level)
 
+unfoldable pub duringText : Kind → ℕ → ℕ → List ℕ
+duringText k level of = faultText k 2 level ++ (ascii " during stage 1 level " ++ decimalOf of)
+
 unfoldable pub fetchedText : ℕ → List ℕ
 fetchedText n = ascii " fetched " ++ decimalOf n
 
 unfoldable pub answerText : Answer → List ℕ
 answerText (Found address fetched) = hexOf address ++ fetchedText fetched
 answerText (Fault k stage level fetched) = faultText k stage level ++ fetchedText fetched
-answerText (During k level of fetched) =
-    faultText k 2 level ++ (ascii " during stage 1 level " ++ decimalOf of) ++ fetchedText fetched
+answerText (During k level of fetched) = duringText k level of ++ fetchedText fetched
 answerText Refused = ascii "REFUSED"

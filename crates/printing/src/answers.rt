@@ -2,7 +2,7 @@
 ghost use Prim.Native.Nat.{_+_, _≤_};
 ghost use lib.ListN.{length, take};
 ghost use Rattle.text.specs.Wrote.{Wrote};
-ghost use Rattle.printing.specs.Answer.{Says, kindText, faultText, answerText};
+ghost use Rattle.printing.specs.Answer.{Says, kindText, faultText, fetchedText, duringText, answerText};
 use text::digits::put;
 use text::digits::put_field;
 use text::digits::put_hex;
@@ -15,28 +15,38 @@ pub struct Text {
     pub length: usize,
 }
 
+const WALK_ABORT: [u8; 20] = *b"WALK_ABORT          ";
+
+const TRANSLATION: [u8; 20] = *b"TRANSLATION         ";
+
+const NOT_MODELLED: [u8; 20] = *b"NOT_MODELLED        ";
+
+const ACCESS_FLAG: [u8; 20] = *b"ACCESS_FLAG         ";
+
+const PERMISSION: [u8; 20] = *b"PERMISSION          ";
+
 fn kind_text(k: Kind) -> Text
     ensures { λ r. ⌜ Says r (kindText k) ⌝ }
 {
     match k {
         Kind::WalkAbort => Text {
-            bytes: *b"WALK_ABORT          ",
+            bytes: WALK_ABORT,
             length: 10,
         },
         Kind::Translation => Text {
-            bytes: *b"TRANSLATION         ",
+            bytes: TRANSLATION,
             length: 11,
         },
         Kind::NotModelled => Text {
-            bytes: *b"NOT_MODELLED        ",
+            bytes: NOT_MODELLED,
             length: 12,
         },
         Kind::AccessFlag => Text {
-            bytes: *b"ACCESS_FLAG         ",
+            bytes: ACCESS_FLAG,
             length: 11,
         },
         Kind::Permission => Text {
-            bytes: *b"PERMISSION          ",
+            bytes: PERMISSION,
             length: 10,
         },
     }
@@ -60,6 +70,22 @@ fn put_fault(out: &mut [u8], at: usize, k: Kind, stage: u64, level: u64) -> usiz
     put_field(out, b, b" level ", level)
 }
 
+fn put_fetched(out: &mut [u8], at: usize, fetched: u64) -> usize
+    requires { ⌜ at + 29 ≤ length (now out) ⌝ }
+    ensures { λ r. ⌜ Wrote 29 (now (out .entry)) at (now (out .exit)) r (fetchedText fetched) ⌝ }
+{
+    put_field(out, at, b" fetched ", fetched)
+}
+
+// A fault of stage 2 while stage 1 was at level `of`.
+fn put_during(out: &mut [u8], at: usize, k: Kind, level: u64, of: u64) -> usize
+    requires { ⌜ at + 116 ≤ length (now out) ⌝ }
+    ensures { λ r. ⌜ Wrote 116 (now (out .entry)) at (now (out .exit)) r (duringText k level of) ⌝ }
+{
+    let next = put_fault(out, at, k, 2, level);
+    put_field(out, next, b" during stage 1 level ", of)
+}
+
 pub fn put_answer(out: &mut [u8], at: usize, a: Answer) -> usize
     requires { ⌜ at + 145 ≤ length (now out) ⌝ }
     ensures { λ r. ⌜ Wrote 145 (now (out .entry)) at (now (out .exit)) r (answerText a) ⌝ }
@@ -67,7 +93,7 @@ pub fn put_answer(out: &mut [u8], at: usize, a: Answer) -> usize
     match a {
         Answer::Found { address, fetched } => {
             let next = put_hex(out, at, address);
-            put_field(out, next, b" fetched ", fetched)
+            put_fetched(out, next, fetched)
         }
         Answer::Fault {
             kind,
@@ -76,7 +102,7 @@ pub fn put_answer(out: &mut [u8], at: usize, a: Answer) -> usize
             fetched,
         } => {
             let next = put_fault(out, at, kind, stage, level);
-            put_field(out, next, b" fetched ", fetched)
+            put_fetched(out, next, fetched)
         }
         Answer::During {
             kind,
@@ -84,9 +110,8 @@ pub fn put_answer(out: &mut [u8], at: usize, a: Answer) -> usize
             of,
             fetched,
         } => {
-            let next = put_fault(out, at, kind, 2, level);
-            let after = put_field(out, next, b" during stage 1 level ", of);
-            put_field(out, after, b" fetched ", fetched)
+            let next = put_during(out, at, kind, level, of);
+            put_fetched(out, next, fetched)
         }
         Answer::Refused => put(out, at, b"REFUSED"),
     }

@@ -10,6 +10,7 @@ ghost use Rattle.machine.specs.Machine.{Kept, ramOf, ledgerOf};
 ghost use Rattle.printing.specs.Answer.{Says};
 ghost use Rattle.script.specs.Line.{reasonText, replyText, mistakeText};
 ghost use Rattle.machine.specs.declared.Reply.the-variants.{Frame, Ledger};
+ghost use Rattle.text.specs.Text.{ascii};
 use language::Reason;
 use machine::Machine;
 use machine::Reply;
@@ -23,47 +24,73 @@ use text::digits::put;
 use text::digits::put_decimal;
 use text::digits::put_word;
 
+const UNKNOWN_COMMAND: [u8; 20] = *b"unknown command     ";
+
+const TOO_FEW_WORDS: [u8; 20] = *b"too few words       ";
+
+const TOO_MANY_WORDS: [u8; 20] = *b"too many words      ";
+
+const NUMBER_EXPECTED: [u8; 20] = *b"number expected     ";
+
+const NUMBER_TOO_LARGE: [u8; 20] = *b"number too large    ";
+
+const ACCESS_EXPECTED: [u8; 20] = *b"access is r, w or x ";
+
+const LEVEL_EXPECTED: [u8; 20] = *b"level is el0 or el1 ";
+
+const NOT_TEXT: [u8; 20] = *b"not text            ";
+
+const LINE_TOO_LONG: [u8; 20] = *b"line too long       ";
+
 fn reason_text(why: Reason) -> Text
     ensures { λ r. ⌜ Says r (reasonText why) ⌝ }
 {
     match why {
         Reason::UnknownCommand => Text {
-            bytes: *b"unknown command     ",
+            bytes: UNKNOWN_COMMAND,
             length: 15,
         },
         Reason::TooFewWords => Text {
-            bytes: *b"too few words       ",
+            bytes: TOO_FEW_WORDS,
             length: 13,
         },
         Reason::TooManyWords => Text {
-            bytes: *b"too many words      ",
+            bytes: TOO_MANY_WORDS,
             length: 14,
         },
         Reason::NumberExpected => Text {
-            bytes: *b"number expected     ",
+            bytes: NUMBER_EXPECTED,
             length: 15,
         },
         Reason::NumberTooLarge => Text {
-            bytes: *b"number too large    ",
+            bytes: NUMBER_TOO_LARGE,
             length: 16,
         },
         Reason::AccessExpected => Text {
-            bytes: *b"access is r, w or x ",
+            bytes: ACCESS_EXPECTED,
             length: 19,
         },
         Reason::LevelExpected => Text {
-            bytes: *b"level is el0 or el1 ",
+            bytes: LEVEL_EXPECTED,
             length: 19,
         },
         Reason::NotText => Text {
-            bytes: *b"not text            ",
+            bytes: NOT_TEXT,
             length: 8,
         },
         Reason::LineTooLong => Text {
-            bytes: *b"line too long       ",
+            bytes: LINE_TOO_LONG,
             length: 13,
         },
     }
+}
+
+// A line's end.
+fn put_end(out: &mut [u8], at: usize) -> usize
+    requires { ⌜ at + 1 ≤ length (now out) ⌝ }
+    ensures { λ r. ⌜ Wrote 1 (now (out .entry)) at (now (out .exit)) r (ascii "\n") ⌝ }
+{
+    put(out, at, b"\n")
 }
 
 fn put_frame_line(out: &mut [u8], m: Machine, ram: &[u8], ledger: &[u32], f: u64) -> usize
@@ -73,7 +100,7 @@ fn put_frame_line(out: &mut [u8], m: Machine, ram: &[u8], ledger: &[u32], f: u64
     let n = (4096 * m.frames) as usize;
     let w = (144 + 16 * m.frames) as usize;
     let at = put_frame(out, 0, &ram[..n], &ledger[..w], f);
-    put(out, at, b"\n")
+    put_end(out, at)
 }
 
 fn put_whole_ledger(out: &mut [u8], m: Machine, ram: &[u8], ledger: &[u32]) -> usize
@@ -95,20 +122,20 @@ pub fn put_reply(out: &mut [u8], reply: Reply, m: Machine, ram: &[u8], ledger: &
         Reply::OutsideRam => put(out, 0, b"refused\n"),
         Reply::Code(n) => {
             let at = put_decimal(out, 0, n);
-            put(out, at, b"\n")
+            put_end(out, at)
         }
         Reply::Contents(v) => {
             let at = put_word(out, 0, v);
-            put(out, at, b"\n")
+            put_end(out, at)
         }
         Reply::Walked(a) => {
             let at = put_answer(out, 0, a);
-            put(out, at, b"\n")
+            put_end(out, at)
         }
         Reply::Frame(f) => put_frame_line(out, m, ram, ledger, f),
         Reply::Guest(g) => {
             let at = put_guest(out, 0, g);
-            put(out, at, b"\n")
+            put_end(out, at)
         }
         Reply::Ledger => put_whole_ledger(out, m, ram, ledger),
         Reply::NoLedger => put(out, 0, b"error: setup needed\n"),
@@ -122,5 +149,5 @@ pub fn put_mistake(out: &mut [u8], why: Reason) -> usize
 {
     let at = put(out, 0, b"error: ");
     let end = put_text(out, at, reason_text(why));
-    put(out, end, b"\n")
+    put_end(out, end)
 }

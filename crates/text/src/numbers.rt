@@ -9,12 +9,6 @@ pub enum Numeral {
     NoNumber,
 }
 
-fn wide(x: u8) -> u64
-    ensures { λ r. ⌜ (r ≡ x) × (r < 256) ⌝ }
-{
-    x as u64
-}
-
 // What a character is worth as a digit; 99 where it is none.
 fn digit(c: u8) -> u64
     ensures { λ r. ⌜ r ≡ digitOf c ⌝ }
@@ -23,19 +17,19 @@ fn digit(c: u8) -> u64
         return 99;
     }
     if c <= b'9' {
-        return wide(c) - 48;
+        return c as u64 - 48;
     }
     if c < b'A' {
         return 99;
     }
     if c <= b'F' {
-        return wide(c) - 55;
+        return c as u64 - 55;
     }
     if c < b'a' {
         return 99;
     }
     if c <= b'f' {
-        return wide(c) - 87;
+        return c as u64 - 87;
     }
     99
 }

@@ -7,7 +7,7 @@ use Rattle.pageledger.proofs.end_line.Statement.{statement}
 use Rattle.pageledger.proofs.end_line.Tie as tie
 
 slice-aggregate-answer-line : tie.Need-slice-aggregate-answer-line
-slice-aggregate-answer-line c = sym (length-take-le (c .before .before .before .before .before .before .args .s .line) (c .before .before .before .before .before .before .args .line .now) (c .before .before .before .before .before .before .pre .gathered))
+slice-aggregate-answer-line c = sym (length-take-le (c .before .before .before .before .before .args .s .line) (c .before .before .before .before .before .args .line .now) (c .before .before .before .before .before .pre .gathered))
 
 sub-answer-line : tie.Need-sub-answer-line
 sub-answer-line c = search needs
@@ -21,8 +21,8 @@ part-answer-line-end c = search needs
 answer-line-requires : tie.Need-answer-line-requires
 answer-line-requires c κs = search needs
 
-add-end : tie.Need-add-end
-add-end c = search needs
+add-flushed : tie.Need-add-flushed
+add-flushed c = search needs
 
 flushed-requires : tie.Need-flushed-requires
 flushed-requires c κs = search needs
@@ -48,7 +48,7 @@ end-line-spec =
     part-answer-line-start
     part-answer-line-end
     answer-line-requires
-    add-end
+    add-flushed
     flushed-requires
     same-length
     same-length-2

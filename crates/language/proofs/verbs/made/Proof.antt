@@ -30,11 +30,11 @@ enum-told-4 c = search needs
 enum-told-5 : tie.Need-enum-told-5
 enum-told-5 c = search needs
 
-array-read-t18 : tie.Need-array-read-t18
-array-read-t18 c = search needs
+array-read-t20 : tie.Need-array-read-t20
+array-read-t20 c = search needs
 
-array-read-t21 : tie.Need-array-read-t21
-array-read-t21 c = search needs
+array-read-t23 : tie.Need-array-read-t23
+array-read-t23 c = search needs
 
 enum-told-6 : tie.Need-enum-told-6
 enum-told-6 c = search needs
@@ -109,8 +109,8 @@ made-spec =
     enum-told-3
     enum-told-4
     enum-told-5
-    array-read-t18
-    array-read-t21
+    array-read-t20
+    array-read-t23
     enum-told-6
     enum-told-7
     enum-told-8

@@ -23,23 +23,23 @@ enum-told-5 c = search needs
 
 returns : tie.Need-returns
 unfolding kindText
-returns c = record { short = omega arith; there = omega arith; same = rw (c .before .before .enum-told .given .1) }
+returns c = record { short = omega arith; there = omega arith; same = rw (c .enum-told .given .1) }
 
 returns-2 : tie.Need-returns-2
 unfolding kindText
-returns-2 c = record { short = omega arith; there = omega arith; same = rw (c .before .before .enum-told2 .given .1) }
+returns-2 c = record { short = omega arith; there = omega arith; same = rw (c .enum-told2 .given .1) }
 
 returns-3 : tie.Need-returns-3
 unfolding kindText
-returns-3 c = record { short = omega arith; there = omega arith; same = rw (c .before .before .enum-told3 .given .1) }
+returns-3 c = record { short = omega arith; there = omega arith; same = rw (c .enum-told3 .given .1) }
 
 returns-4 : tie.Need-returns-4
 unfolding kindText
-returns-4 c = record { short = omega arith; there = omega arith; same = rw (c .before .before .enum-told4 .given .1) }
+returns-4 c = record { short = omega arith; there = omega arith; same = rw (c .enum-told4 .given .1) }
 
 returns-5 : tie.Need-returns-5
 unfolding kindText
-returns-5 c = record { short = omega arith; there = omega arith; same = rw (c .before .before .enum-told5 .given .1) }
+returns-5 c = record { short = omega arith; there = omega arith; same = rw (c .enum-told5 .given .1) }
 
 pub kind-text-spec : {M : Type 1} → statement M
 kind-text-spec =

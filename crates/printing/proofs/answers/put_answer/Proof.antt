@@ -1,6 +1,6 @@
 -- Written by tools/prove from the file answers beside it: edit that, and not this.
 -- Part after part.
-use Rattle.printing.specs.Answer.{fetchedText, answerText}
+use Rattle.printing.specs.Answer.{answerText}
 use Rattle.text.proofs.Printing.{wrote-then, wrote-within}
 use borrow.Author.Needs.{needs}
 use native.Mathlib.Omega.{arith}
@@ -13,11 +13,8 @@ enum-known-a c = search needs
 put-hex-requires : tie.Need-put-hex-requires
 put-hex-requires c κs = search needs
 
-slice-aggregate-put-field : tie.Need-slice-aggregate-put-field
-slice-aggregate-put-field c = search needs
-
-put-field-requires : tie.Need-put-field-requires
-put-field-requires c κs = search needs
+put-fetched-requires : tie.Need-put-fetched-requires
+put-fetched-requires c κs = search needs
 
 enum-known-a-2 : tie.Need-enum-known-a-2
 enum-known-a-2 c = search needs
@@ -25,29 +22,17 @@ enum-known-a-2 c = search needs
 put-fault-requires : tie.Need-put-fault-requires
 put-fault-requires c κs = search needs
 
-slice-aggregate-put-field-2 : tie.Need-slice-aggregate-put-field-2
-slice-aggregate-put-field-2 c = search needs
-
-put-field-requires-2 : tie.Need-put-field-requires-2
-put-field-requires-2 c κs = search needs
+put-fetched-requires-2 : tie.Need-put-fetched-requires-2
+put-fetched-requires-2 c κs = search needs
 
 enum-known-a-3 : tie.Need-enum-known-a-3
 enum-known-a-3 c = search needs
 
-put-fault-requires-2 : tie.Need-put-fault-requires-2
-put-fault-requires-2 c κs = search needs
+put-during-requires : tie.Need-put-during-requires
+put-during-requires c κs = search needs
 
-slice-aggregate-put-field-3 : tie.Need-slice-aggregate-put-field-3
-slice-aggregate-put-field-3 c = search needs
-
-put-field-requires-3 : tie.Need-put-field-requires-3
-put-field-requires-3 c κs = search needs
-
-slice-aggregate-put-field-4 : tie.Need-slice-aggregate-put-field-4
-slice-aggregate-put-field-4 c = search needs
-
-put-field-requires-4 : tie.Need-put-field-requires-4
-put-field-requires-4 c κs = search needs
+put-fetched-requires-3 : tie.Need-put-fetched-requires-3
+put-fetched-requires-3 c κs = search needs
 
 enum-told : tie.Need-enum-told
 enum-told c = search needs
@@ -62,22 +47,22 @@ same-length : tie.Need-same-length
 same-length c = search needs
 
 returns : tie.Need-returns
-unfolding answerText fetchedText
-returns c = wrote-within (wrote-then (c .before .before .before .before .before .before .before .put-hex .ensures) (c .before .before .put-field .ensures)) (omega arith) (rw (c .before .before .before .before .before .before .before .before .before .before .a .given .1))
+unfolding answerText
+returns c = wrote-within (wrote-then (c .before .before .before .before .before .before .put-hex .ensures) (c .before .before .put-fetched .ensures)) (omega arith) (rw (c .before .before .before .before .before .before .before .before .before .a .given .1))
 
 same-length-2 : tie.Need-same-length-2
 same-length-2 c = search needs
 
 returns-2 : tie.Need-returns-2
-unfolding answerText fetchedText
-returns-2 c = wrote-within (wrote-then (c .before .before .before .before .before .before .before .put-fault .ensures) (c .before .before .put-field2 .ensures)) (omega arith) (rw (c .before .before .before .before .before .before .before .before .before .before .a2 .given .1))
+unfolding answerText
+returns-2 c = wrote-within (wrote-then (c .before .before .before .before .before .before .put-fault .ensures) (c .before .before .put-fetched2 .ensures)) (omega arith) (rw (c .before .before .before .before .before .before .before .before .before .a2 .given .1))
 
 same-length-3 : tie.Need-same-length-3
 same-length-3 c = search needs
 
 returns-3 : tie.Need-returns-3
-unfolding answerText fetchedText
-returns-3 c = wrote-within (wrote-then (wrote-then (c .before .before .before .before .before .before .before .before .before .before .before .before .put-fault2 .ensures) (c .before .before .before .before .before .before .before .put-field3 .ensures)) (c .before .before .put-field4 .ensures)) (omega arith) (rw (c .before .before .before .before .before .before .before .before .before .before .before .before .before .before .before .a3 .given .1))
+unfolding answerText
+returns-3 c = wrote-within (wrote-then (c .before .before .before .before .before .before .put-during .ensures) (c .before .before .put-fetched3 .ensures)) (omega arith) (rw (c .before .before .before .before .before .before .before .before .before .a3 .given .1))
 
 same-length-4 : tie.Need-same-length-4
 same-length-4 c = search needs
@@ -92,18 +77,13 @@ put-answer-spec =
     (tie.spec
     enum-known-a
     put-hex-requires
-    slice-aggregate-put-field
-    put-field-requires
+    put-fetched-requires
     enum-known-a-2
     put-fault-requires
-    slice-aggregate-put-field-2
-    put-field-requires-2
+    put-fetched-requires-2
     enum-known-a-3
-    put-fault-requires-2
-    slice-aggregate-put-field-3
-    put-field-requires-3
-    slice-aggregate-put-field-4
-    put-field-requires-4
+    put-during-requires
+    put-fetched-requires-3
     enum-told
     slice-aggregate-put
     put-requires

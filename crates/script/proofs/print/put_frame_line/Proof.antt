@@ -29,18 +29,15 @@ slice-aggregate-put-frame-2 c = sym (length-take-le (144 + 16 * c .before .befor
 put-frame-requires : tie.Need-put-frame-requires
 put-frame-requires c κs = (c .before .before .before .before .before .before .before .before .pre .0 .sound (c .before .before .before .before .before .before .before .before .pre .1), omega arith)
 
-slice-aggregate-put : tie.Need-slice-aggregate-put
-slice-aggregate-put c = search needs
-
-put-requires : tie.Need-put-requires
-put-requires c κs = search needs
+put-end-requires : tie.Need-put-end-requires
+put-end-requires c κs = search needs
 
 same-length : tie.Need-same-length
 same-length c = search needs
 
 returns : tie.Need-returns
 unfolding replyText
-returns c = wrote-then (c .before .before .before .before .before .before .before .put-frame .ensures) (c .before .before .put .ensures)
+returns c = wrote-then (c .before .before .before .before .before .before .put-frame .ensures) (c .before .before .put-end .ensures)
 
 pub put-frame-line-spec : {M : Type 1} → statement M
 put-frame-line-spec =
@@ -52,7 +49,6 @@ put-frame-line-spec =
     slice-aggregate-put-frame
     slice-aggregate-put-frame-2
     put-frame-requires
-    slice-aggregate-put
-    put-requires
+    put-end-requires
     same-length
     returns)

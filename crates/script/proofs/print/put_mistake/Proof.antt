@@ -19,11 +19,8 @@ reason-text-requires c κs = search needs
 put-text-requires : tie.Need-put-text-requires
 put-text-requires c κs = search needs
 
-slice-aggregate-put-2 : tie.Need-slice-aggregate-put-2
-slice-aggregate-put-2 c = search needs
-
-put-requires-2 : tie.Need-put-requires-2
-put-requires-2 c κs = search needs
+put-end-requires : tie.Need-put-end-requires
+put-end-requires c κs = search needs
 
 same-length : tie.Need-same-length
 same-length c = search needs
@@ -31,8 +28,8 @@ same-length c = search needs
 returns : tie.Need-returns
 unfolding mistakeText
 returns c = wrote-then
-    (wrote-then (c .before .before .before .before .before .before .before .before .before .before .before .before .put .ensures) (wrote-within {b = 20} (c .before .before .before .before .before .before .before .put-text .ensures) (omega arith) (c .before .before .before .before .before .before .before .before .reason-text .ensures .same)))
-    (c .before .before .put2 .ensures)
+    (wrote-then (c .before .before .before .before .before .before .before .before .before .before .before .put .ensures) (wrote-within {b = 20} (c .before .before .before .before .before .before .put-text .ensures) (omega arith) (c .before .before .before .before .before .before .before .reason-text .ensures .same)))
+    (c .before .before .put-end .ensures)
 
 pub put-mistake-spec : {M : Type 1} → statement M
 put-mistake-spec =
@@ -42,7 +39,6 @@ put-mistake-spec =
     put-requires
     reason-text-requires
     put-text-requires
-    slice-aggregate-put-2
-    put-requires-2
+    put-end-requires
     same-length
     returns)

@@ -44,11 +44,8 @@ enum-known-reply c = search needs
 put-decimal-requires : tie.Need-put-decimal-requires
 put-decimal-requires c κs = search needs
 
-slice-aggregate-put-3 : tie.Need-slice-aggregate-put-3
-slice-aggregate-put-3 c = search needs
-
-put-requires-3 : tie.Need-put-requires-3
-put-requires-3 c κs = search needs
+put-end-requires : tie.Need-put-end-requires
+put-end-requires c κs = search needs
 
 enum-known-reply-2 : tie.Need-enum-known-reply-2
 enum-known-reply-2 c = search needs
@@ -56,11 +53,8 @@ enum-known-reply-2 c = search needs
 put-word-requires : tie.Need-put-word-requires
 put-word-requires c κs = search needs
 
-slice-aggregate-put-4 : tie.Need-slice-aggregate-put-4
-slice-aggregate-put-4 c = search needs
-
-put-requires-4 : tie.Need-put-requires-4
-put-requires-4 c κs = search needs
+put-end-requires-2 : tie.Need-put-end-requires-2
+put-end-requires-2 c κs = search needs
 
 enum-known-reply-3 : tie.Need-enum-known-reply-3
 enum-known-reply-3 c = search needs
@@ -68,11 +62,8 @@ enum-known-reply-3 c = search needs
 put-answer-requires : tie.Need-put-answer-requires
 put-answer-requires c κs = search needs
 
-slice-aggregate-put-5 : tie.Need-slice-aggregate-put-5
-slice-aggregate-put-5 c = search needs
-
-put-requires-5 : tie.Need-put-requires-5
-put-requires-5 c κs = search needs
+put-end-requires-3 : tie.Need-put-end-requires-3
+put-end-requires-3 c κs = search needs
 
 enum-known-reply-4 : tie.Need-enum-known-reply-4
 enum-known-reply-4 c = search needs
@@ -86,11 +77,8 @@ enum-known-reply-5 c = search needs
 put-guest-requires : tie.Need-put-guest-requires
 put-guest-requires c κs = search needs
 
-slice-aggregate-put-6 : tie.Need-slice-aggregate-put-6
-slice-aggregate-put-6 c = search needs
-
-put-requires-6 : tie.Need-put-requires-6
-put-requires-6 c κs = search needs
+put-end-requires-4 : tie.Need-put-end-requires-4
+put-end-requires-4 c κs = search needs
 
 enum-told-3 : tie.Need-enum-told-3
 enum-told-3 c = search needs
@@ -101,11 +89,11 @@ put-whole-ledger-requires c κs = (c .before .before .before .before .before .be
 enum-told-4 : tie.Need-enum-told-4
 enum-told-4 c = search needs
 
-slice-aggregate-put-7 : tie.Need-slice-aggregate-put-7
-slice-aggregate-put-7 c = search needs
+slice-aggregate-put-3 : tie.Need-slice-aggregate-put-3
+slice-aggregate-put-3 c = search needs
 
-put-requires-7 : tie.Need-put-requires-7
-put-requires-7 c κs = search needs
+put-requires-3 : tie.Need-put-requires-3
+put-requires-3 c κs = search needs
 
 same-length : tie.Need-same-length
 same-length c = search needs
@@ -126,21 +114,21 @@ same-length-3 c = search needs
 
 returns-3 : tie.Need-returns-3
 unfolding replyText
-returns-3 c = wrote-within (wrote-then (c .before .before .before .before .before .before .before .put-decimal .ensures) (c .before .before .put3 .ensures)) (omega arith) (rw (c .before .before .before .before .before .before .before .before .before .before .reply .given .1))
+returns-3 c = wrote-within (wrote-then (c .before .before .before .before .before .before .put-decimal .ensures) (c .before .before .put-end .ensures)) (omega arith) (rw (c .before .before .before .before .before .before .before .before .before .reply .given .1))
 
 same-length-4 : tie.Need-same-length-4
 same-length-4 c = search needs
 
 returns-4 : tie.Need-returns-4
 unfolding replyText
-returns-4 c = wrote-within (wrote-then (c .before .before .before .before .before .before .before .put-word .ensures) (c .before .before .put4 .ensures)) (omega arith) (rw (c .before .before .before .before .before .before .before .before .before .before .reply2 .given .1))
+returns-4 c = wrote-within (wrote-then (c .before .before .before .before .before .before .put-word .ensures) (c .before .before .put-end2 .ensures)) (omega arith) (rw (c .before .before .before .before .before .before .before .before .before .reply2 .given .1))
 
 same-length-5 : tie.Need-same-length-5
 same-length-5 c = search needs
 
 returns-5 : tie.Need-returns-5
 unfolding replyText
-returns-5 c = wrote-within (wrote-then (c .before .before .before .before .before .before .before .put-answer .ensures) (c .before .before .put5 .ensures)) (omega arith) (rw (c .before .before .before .before .before .before .before .before .before .before .reply3 .given .1))
+returns-5 c = wrote-within (wrote-then (c .before .before .before .before .before .before .put-answer .ensures) (c .before .before .put-end3 .ensures)) (omega arith) (rw (c .before .before .before .before .before .before .before .before .before .reply3 .given .1))
 
 same-length-6 : tie.Need-same-length-6
 same-length-6 c = search needs
@@ -153,7 +141,7 @@ same-length-7 c = search needs
 
 returns-7 : tie.Need-returns-7
 unfolding replyText
-returns-7 c = wrote-within (wrote-then (c .before .before .before .before .before .before .before .put-guest .ensures) (c .before .before .put6 .ensures)) (omega arith) (rw (c .before .before .before .before .before .before .before .before .before .before .reply5 .given .1))
+returns-7 c = wrote-within (wrote-then (c .before .before .before .before .before .before .put-guest .ensures) (c .before .before .put-end4 .ensures)) (omega arith) (rw (c .before .before .before .before .before .before .before .before .before .reply5 .given .1))
 
 same-length-8 : tie.Need-same-length-8
 same-length-8 c = search needs
@@ -166,7 +154,7 @@ same-length-9 c = search needs
 
 returns-9 : tie.Need-returns-9
 unfolding replyText
-returns-9 c = wrote-within (c .before .before .put7 .ensures) (omega arith) (rw (c .before .before .before .before .before .enum-told4 .given .1))
+returns-9 c = wrote-within (c .before .before .put3 .ensures) (omega arith) (rw (c .before .before .before .before .before .enum-told4 .given .1))
 
 pub put-reply-spec : {M : Type 1} → statement M
 put-reply-spec =
@@ -180,27 +168,23 @@ put-reply-spec =
     put-requires-2
     enum-known-reply
     put-decimal-requires
-    slice-aggregate-put-3
-    put-requires-3
+    put-end-requires
     enum-known-reply-2
     put-word-requires
-    slice-aggregate-put-4
-    put-requires-4
+    put-end-requires-2
     enum-known-reply-3
     put-answer-requires
-    slice-aggregate-put-5
-    put-requires-5
+    put-end-requires-3
     enum-known-reply-4
     put-frame-line-requires
     enum-known-reply-5
     put-guest-requires
-    slice-aggregate-put-6
-    put-requires-6
+    put-end-requires-4
     enum-told-3
     put-whole-ledger-requires
     enum-told-4
-    slice-aggregate-put-7
-    put-requires-7
+    slice-aggregate-put-3
+    put-requires-3
     same-length
     returns
     same-length-2

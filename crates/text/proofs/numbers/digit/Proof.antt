@@ -13,20 +13,16 @@ returns c = simp (
   lt-leb _ _ (c .if1 .taken),
 )
 
-wide-requires : tie.Need-wide-requires
-wide-requires c κs = search needs
-
 sub-result : tie.Need-sub-result
 sub-result c = search needs
 
 returns-2 : tie.Need-returns-2
 unfolding digitOf
 returns-2 c = simp (
-  le-leb _ _ (c .before .before .if1 .left),
-  le-ltb _ _ (c .before .before .if1 .left),
-  le-leb _ _ (c .before .if2 .taken),
-  le-ltb _ _ (c .before .if2 .taken),
-  c .wide .ensures .0,
+  le-leb _ _ (c .before .if1 .left),
+  le-ltb _ _ (c .before .if1 .left),
+  le-leb _ _ (c .if2 .taken),
+  le-ltb _ _ (c .if2 .taken),
 )
 
 returns-3 : tie.Need-returns-3
@@ -40,24 +36,20 @@ returns-3 c = simp (
   lt-leb _ _ (c .if3 .taken),
 )
 
-wide-requires-2 : tie.Need-wide-requires-2
-wide-requires-2 c κs = search needs
-
 sub-result-2 : tie.Need-sub-result-2
 sub-result-2 c = search needs
 
 returns-4 : tie.Need-returns-4
 unfolding digitOf
 returns-4 c = simp (
-  le-leb _ _ (c .before .before .before .before .if1 .left),
-  le-ltb _ _ (c .before .before .before .before .if1 .left),
-  lt-ltb _ _ (c .before .before .before .if2 .left),
-  lt-leb _ _ (c .before .before .before .if2 .left),
-  le-leb _ _ (c .before .before .if3 .left),
-  le-ltb _ _ (c .before .before .if3 .left),
-  le-leb _ _ (c .before .if4 .taken),
-  le-ltb _ _ (c .before .if4 .taken),
-  c .wide2 .ensures .0,
+  le-leb _ _ (c .before .before .before .if1 .left),
+  le-ltb _ _ (c .before .before .before .if1 .left),
+  lt-ltb _ _ (c .before .before .if2 .left),
+  lt-leb _ _ (c .before .before .if2 .left),
+  le-leb _ _ (c .before .if3 .left),
+  le-ltb _ _ (c .before .if3 .left),
+  le-leb _ _ (c .if4 .taken),
+  le-ltb _ _ (c .if4 .taken),
 )
 
 returns-5 : tie.Need-returns-5
@@ -75,28 +67,24 @@ returns-5 c = simp (
   lt-leb _ _ (c .if5 .taken),
 )
 
-wide-requires-3 : tie.Need-wide-requires-3
-wide-requires-3 c κs = search needs
-
 sub-result-3 : tie.Need-sub-result-3
 sub-result-3 c = search needs
 
 returns-6 : tie.Need-returns-6
 unfolding digitOf
 returns-6 c = simp (
-  le-leb _ _ (c .before .before .before .before .before .before .if1 .left),
-  le-ltb _ _ (c .before .before .before .before .before .before .if1 .left),
-  lt-ltb _ _ (c .before .before .before .before .before .if2 .left),
-  lt-leb _ _ (c .before .before .before .before .before .if2 .left),
-  le-leb _ _ (c .before .before .before .before .if3 .left),
-  le-ltb _ _ (c .before .before .before .before .if3 .left),
-  lt-ltb _ _ (c .before .before .before .if4 .left),
-  lt-leb _ _ (c .before .before .before .if4 .left),
-  le-leb _ _ (c .before .before .if5 .left),
-  le-ltb _ _ (c .before .before .if5 .left),
-  le-leb _ _ (c .before .if6 .taken),
-  le-ltb _ _ (c .before .if6 .taken),
-  c .wide3 .ensures .0,
+  le-leb _ _ (c .before .before .before .before .before .if1 .left),
+  le-ltb _ _ (c .before .before .before .before .before .if1 .left),
+  lt-ltb _ _ (c .before .before .before .before .if2 .left),
+  lt-leb _ _ (c .before .before .before .before .if2 .left),
+  le-leb _ _ (c .before .before .before .if3 .left),
+  le-ltb _ _ (c .before .before .before .if3 .left),
+  lt-ltb _ _ (c .before .before .if4 .left),
+  lt-leb _ _ (c .before .before .if4 .left),
+  le-leb _ _ (c .before .if5 .left),
+  le-ltb _ _ (c .before .if5 .left),
+  le-leb _ _ (c .if6 .taken),
+  le-ltb _ _ (c .if6 .taken),
 )
 
 returns-7 : tie.Need-returns-7
@@ -121,15 +109,12 @@ digit-spec =
     tie.close
     (tie.spec
     returns
-    wide-requires
     sub-result
     returns-2
     returns-3
-    wide-requires-2
     sub-result-2
     returns-4
     returns-5
-    wide-requires-3
     sub-result-3
     returns-6
     returns-7)
