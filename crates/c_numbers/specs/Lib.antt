@@ -1,1 +1,2 @@
+-- How an answer lies in the array that a C caller lends.
 pub mod Answer

@@ -1,3 +1,4 @@
+-- Isolation is the page to read; Slices and Calls say what a step of the two slices is, and Runs, OnSlices, Contents and TwoComputers what is proved of them.
 pub mod Isolation
 pub mod Calls
 pub mod Slices

@@ -1,2 +1,3 @@
+-- Laws of the definitions, for the proofs of the code.
 mod Based
 mod Laws

@@ -1,3 +1,4 @@
+-- A word in a slice of bytes, and its laws.
 pub mod Word
 pub mod Bytes
 pub mod Laws

@@ -1,3 +1,4 @@
+-- Document 03: State to Machine are the definitions, Theorems what is proved of them; Invariant and the laws need no reading.
 pub mod Base
 pub mod State
 pub mod Entry

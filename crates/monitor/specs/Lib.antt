@@ -1,3 +1,4 @@
+-- What callers of the monitor cite: the operations' definitions, from the crates that have them; set-up; the questions.
 pub use Rattle.operation.specs.Answers
 pub use Rattle.operation.specs.Found
 pub use Rattle.guests.specs.Create

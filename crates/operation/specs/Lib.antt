@@ -1,3 +1,4 @@
+-- What every operation promises, and the laws of a check and a doing.
 pub mod Answers
 pub mod Quiet
 pub mod Found

@@ -1,1 +1,2 @@
+-- A new table, and what linking it asks for.
 pub mod NewTable

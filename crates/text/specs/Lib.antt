@@ -1,3 +1,4 @@
+-- Words, numbers and digits in bytes, and what printing leaves.
 pub mod Text
 pub mod Words
 pub mod Number

@@ -1,1 +1,2 @@
+-- unmap: the definition that the contract cites, the plan, and the laws of its proof.
 pub mod Unmap
