@@ -22,6 +22,10 @@ use Rattle.machine.specs.declared.Reply.{Reply}
 use Rattle.machine.specs.declared.Reply.the-variants.{Done, OutsideRam, Code, Contents, Walked, Frame, Guest, Ledger, NoLedger}
 use Rattle.machine.specs.Machine.{ramOf, ledgerOf, Kept, allowedOf, inRam, outcome, told, translation, said, Begins, Writes, Operates, Does, Executed}
 
+-- how long the machine's part of a slice is
+pub ram-part : {m : Machine} {ram l : List ℕ} → Kept m ram l → 4096 * m .frames ≡ length (ramOf m ram)
+ram-part {m} {ram} k = sym (length-take-le (4096 * m .frames) ram (k .within))
+
 -- of a machine that is ready: the ledger has a row for each of its frames, and is in the lent slice
 module _ {m : Machine} {ram l : List ℕ} (k : Kept m ram l) (h : m .ready ≡ true) where
   pub size-is : size-of (ledgerOf m l) ≡ m .frames
@@ -39,6 +43,9 @@ module _ {m : Machine} {ram l : List ℕ} (k : Kept m ram l) (h : m .ready ≡ t
         omega arith
     | inr s ↦ s
   ]
+
+  pub ledger-part : words-for (m .frames) ≡ length (ledgerOf m l)
+  ledger-part = sym (length-take-le (words-for (m .frames)) l ledger-within)
 
 -- before a `setup` there is nothing to count on
 pub kept-none : (m : Machine) (ram l : List ℕ) → m .frames ≡ 0 → m .ready ≡ false → Kept m ram l

@@ -1,9 +1,7 @@
 -- Written by tools/prove from the file answers beside it: edit that, and not this.
 -- The machine's parts are lent, and come back to their places.
-use Prim.Native.Nat.{_+_, _*_}
-use mathlib.Core.Path.{refl, sym}
-use lib.Seq.{length-take-le}
-use Rattle.machine.specs.Laws.{ledger-within}
+use mathlib.Core.Path.{refl}
+use Rattle.machine.specs.Laws.{ram-part, ledger-within, ledger-part}
 use Rattle.machine.proofs.Laws.{operated}
 use borrow.Author.Needs.{needs}
 use Rattle.machine.proofs.operations.operate.Statement.{statement}
@@ -22,13 +20,13 @@ slice-relend-prefix-answer : tie.Need-slice-relend-prefix-answer
 slice-relend-prefix-answer c = search needs
 
 slice-aggregate-answer : tie.Need-slice-aggregate-answer
-slice-aggregate-answer c = sym (length-take-le (4096 * c .before .before .before .before .before .before .args .m .frames) (c .before .before .before .before .before .before .args .ram .now) (c .before .before .before .before .before .before .pre .within))
+slice-aggregate-answer c = ram-part (c .before .before .before .before .before .before .pre)
 
 slice-relend-prefix-answer-2 : tie.Need-slice-relend-prefix-answer-2
-slice-relend-prefix-answer-2 c = (ledger-within (c .before .before .before .before .before .before .pre) (c .before .before .before .if1 .taken))
+slice-relend-prefix-answer-2 c = ledger-within (c .before .before .before .before .before .before .pre) (c .before .before .before .if1 .taken)
 
 slice-aggregate-answer-2 : tie.Need-slice-aggregate-answer-2
-slice-aggregate-answer-2 c = sym (length-take-le (144 + 16 * c .before .before .before .before .before .before .before .args .m .frames) (c .before .before .before .before .before .before .before .args .ledger .now) ((ledger-within (c .before .before .before .before .before .before .before .pre) (c .before .before .before .before .if1 .taken))))
+slice-aggregate-answer-2 c = ledger-part (c .before .before .before .before .before .before .before .pre) (c .before .before .before .before .if1 .taken)
 
 answer-requires : tie.Need-answer-requires
 answer-requires c κs = c .before .before .before .before .before .before .before .pre .sound (c .before .before .before .before .if1 .taken)

@@ -1,9 +1,7 @@
 -- Written by tools/prove from the file answers beside it: edit that, and not this.
 -- The slices have the machine's parts, and the ledger's base is the machine's.
-use Prim.Native.Nat.{_+_, _*_}
-use mathlib.Core.Path.{_∙_, sym}
-use lib.Seq.{length-take-le}
-use Rattle.machine.specs.Laws.{ledger-within}
+use mathlib.Core.Path.{_∙_}
+use Rattle.machine.specs.Laws.{ram-part, ledger-part}
 use Rattle.machine.proofs.Laws.{told-so}
 use Rattle.machine.proofs.Based.{translated-so}
 use borrow.Author.Needs.{needs}
@@ -20,10 +18,10 @@ add-w : tie.Need-add-w
 add-w c = search needs
 
 slice-aggregate-translation : tie.Need-slice-aggregate-translation
-slice-aggregate-translation c = sym (length-take-le (4096 * c .before .before .before .before .before .before .args .m .frames) (c .before .before .before .before .before .before .args .ram .now) (c .before .before .before .before .before .before .pre .within))
+slice-aggregate-translation c = ram-part (c .before .before .before .before .before .before .pre)
 
 slice-aggregate-translation-2 : tie.Need-slice-aggregate-translation-2
-slice-aggregate-translation-2 c = sym (length-take-le (144 + 16 * c .before .before .before .before .before .before .before .args .m .frames) (c .before .before .before .before .before .before .before .args .ledger .now) (ledger-within (c .before .before .before .before .before .before .before .pre) (c .before .before .before .before .if1 .taken)))
+slice-aggregate-translation-2 c = ledger-part (c .before .before .before .before .before .before .before .pre) (c .before .before .before .before .if1 .taken)
 
 translation-requires : tie.Need-translation-requires
 translation-requires c κs = c .before .before .before .before .before .before .before .pre .sound (c .before .before .before .before .if1 .taken)

@@ -1,10 +1,8 @@
 -- Written by tools/prove from the file answers beside it: edit that, and not this.
 -- The slice has the machine's ledger, and the word is in RAM.
-use Prim.Native.Nat.{_+_, _*_}
 use mathlib.Core.Path.{_∙_, sym}
-use lib.Seq.{length-take-le}
 use Rattle.machine.specs.Machine.{inTable}
-use Rattle.machine.specs.Laws.{size-is, ledger-within}
+use Rattle.machine.specs.Laws.{size-is, ledger-part}
 use Rattle.machine.proofs.Laws.{place}
 use borrow.Author.Needs.{needs}
 use native.Mathlib.Omega.{arith}
@@ -18,7 +16,7 @@ add-w : tie.Need-add-w
 add-w c = search needs
 
 slice-aggregate-in-table : tie.Need-slice-aggregate-in-table
-slice-aggregate-in-table c = sym (length-take-le (144 + 16 * c .before .before .before .before .before .args .m .frames) (c .before .before .before .before .before .args .ledger .now) (ledger-within (c .before .before .before .before .before .pre .0) (c .before .before .if1 .taken)))
+slice-aggregate-in-table c = ledger-part (c .before .before .before .before .before .pre .0) (c .before .before .if1 .taken)
 
 sub-in-table : tie.Need-sub-in-table
 sub-in-table c = place _ _ (c .before .before .before .before .before .before .pre .1) .0

@@ -1,13 +1,10 @@
 -- Written by tools/prove from the file answers beside it: edit that, and not this.
 -- The slices have the machine's parts.
-use Prim.Native.Nat.{_+_, _*_}
-use lib.Seq.{length-take-le}
-use Rattle.machine.specs.Laws.{ledger-within}
+use Rattle.machine.specs.Laws.{ram-part, ledger-part}
 use Rattle.script.specs.Line.{replyText}
 use Rattle.text.proofs.Printing.{wrote-then}
 use borrow.Author.Needs.{needs}
 use native.Mathlib.Omega.{arith}
-use mathlib.Core.Path.{sym}
 use Rattle.script.proofs.print.put_frame_line.Statement.{statement}
 use Rattle.script.proofs.print.put_frame_line.Tie as tie
 
@@ -21,10 +18,10 @@ add-w : tie.Need-add-w
 add-w c = search needs
 
 slice-aggregate-put-frame : tie.Need-slice-aggregate-put-frame
-slice-aggregate-put-frame c = sym (length-take-le (4096 * c .before .before .before .before .before .before .before .args .m .frames) (c .before .before .before .before .before .before .before .args .ram .now) (c .before .before .before .before .before .before .before .pre .0 .within))
+slice-aggregate-put-frame c = ram-part (c .before .before .before .before .before .before .before .pre .0)
 
 slice-aggregate-put-frame-2 : tie.Need-slice-aggregate-put-frame-2
-slice-aggregate-put-frame-2 c = sym (length-take-le (144 + 16 * c .before .before .before .before .before .before .before .before .args .m .frames) (c .before .before .before .before .before .before .before .before .args .ledger .now) (ledger-within (c .before .before .before .before .before .before .before .before .pre .0) (c .before .before .before .before .before .before .before .before .pre .1)))
+slice-aggregate-put-frame-2 c = ledger-part (c .before .before .before .before .before .before .before .before .pre .0) (c .before .before .before .before .before .before .before .before .pre .1)
 
 put-frame-requires : tie.Need-put-frame-requires
 put-frame-requires c κs = (c .before .before .before .before .before .before .before .before .pre .0 .sound (c .before .before .before .before .before .before .before .before .pre .1), omega arith)

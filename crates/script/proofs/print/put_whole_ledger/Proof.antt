@@ -1,9 +1,7 @@
 -- Written by tools/prove from the file answers beside it: edit that, and not this.
 -- The slices have the machine's parts, and the ledger is one of the machine's frames.
-use Prim.Native.Nat.{_+_, _*_}
-use mathlib.Core.Path.{refl, sym}
-use lib.Seq.{length-take-le}
-use Rattle.machine.specs.Laws.{ledger-within, size-is}
+use mathlib.Core.Path.{refl}
+use Rattle.machine.specs.Laws.{ram-part, ledger-part, size-is}
 use Rattle.script.specs.Line.{replyText}
 use Rattle.text.proofs.Printing.{wrote-within}
 use borrow.Author.Needs.{needs}
@@ -21,10 +19,10 @@ add-w : tie.Need-add-w
 add-w c = search needs
 
 slice-aggregate-put-ledger : tie.Need-slice-aggregate-put-ledger
-slice-aggregate-put-ledger c = sym (length-take-le (4096 * c .before .before .before .before .before .before .before .args .m .frames) (c .before .before .before .before .before .before .before .args .ram .now) (c .before .before .before .before .before .before .before .pre .0 .within))
+slice-aggregate-put-ledger c = ram-part (c .before .before .before .before .before .before .before .pre .0)
 
 slice-aggregate-put-ledger-2 : tie.Need-slice-aggregate-put-ledger-2
-slice-aggregate-put-ledger-2 c = sym (length-take-le (144 + 16 * c .before .before .before .before .before .before .before .before .args .m .frames) (c .before .before .before .before .before .before .before .before .args .ledger .now) (ledger-within (c .before .before .before .before .before .before .before .before .pre .0) (c .before .before .before .before .before .before .before .before .pre .1)))
+slice-aggregate-put-ledger-2 c = ledger-part (c .before .before .before .before .before .before .before .before .pre .0) (c .before .before .before .before .before .before .before .before .pre .1)
 
 put-ledger-requires : tie.Need-put-ledger-requires
 put-ledger-requires c κs = (c .before .before .before .before .before .before .before .before .pre .0 .sound (c .before .before .before .before .before .before .before .before .pre .1), omega (arith, (size-is (c .before .before .before .before .before .before .before .before .pre .0) (c .before .before .before .before .before .before .before .before .pre .1))))
