@@ -1,5 +1,5 @@
-/* The same walks and operations on every processor: prints how often each answer was given, and a digest of every answer and of both
- * slices on the way. tests/digest.expected is what a build must print, wherever it runs: the x86-64 library printed it, which
+/* The same walks and operations on every processor: prints how often each answer was given, and a digest of every answer, of RAM and of
+ * what the ledger says on the way. tests/digest.expected is what a build must print, wherever it runs: the x86-64 library printed it, which
  * host/ holds to a second implementation of documents 01 and 03. */
 #include <inttypes.h>
 #include <stdio.h>
@@ -28,12 +28,27 @@ static void take_in(uint64_t x)
     digest ^= digest >> 29;
 }
 
-static void take_in_both(void)
+static void take_in_all(const uint64_t *x, size_t n)
 {
-    for (size_t i = 0; i < sizeof ledger / sizeof *ledger; i++)
-        take_in(ledger[i]);
-    for (size_t i = 0; i < sizeof words / sizeof *words; i++)
-        take_in(words[i]);
+    for (size_t i = 0; i < n; i++)
+        take_in(x[i]);
+}
+
+/* RAM word by word; of the ledger what can be asked of it, since how it lies there is no promise. */
+static void take_in_state(void)
+{
+    uint64_t answer[3];
+    take_in_all(words, sizeof words / sizeof *words);
+    for (uint64_t f = 0; f < FRAMES; f++) {
+        pageledger_frame(BOTH, f, answer, 3);
+        take_in_all(answer, 3);
+        for (uint64_t g = 1; g <= PAGELEDGER_GUESTS; g++)
+            take_in(pageledger_shared_with(BOTH, f, g));
+    }
+    for (uint64_t g = 1; g <= PAGELEDGER_GUESTS; g++) {
+        pageledger_guest(BOTH, g, answer, 3);
+        take_in_all(answer, 3);
+    }
 }
 
 static void show(const char *what, uint64_t n)
@@ -64,8 +79,7 @@ static void walk_at_random(void)
     words[random_below(sizeof words / sizeof *words)] = descriptor();
     take_in(random_below(2) ? pageledger_stage2(RAM, base, FRAMES, root2, va, access, answer, PAGELEDGER_ANSWER_NUMBERS)
                             : pageledger_both_stages(RAM, base, FRAMES, root1 + base, root2, va, access, el, answer, PAGELEDGER_ANSWER_NUMBERS));
-    for (int i = 0; i < PAGELEDGER_ANSWER_NUMBERS; i++)
-        take_in(answer[i]);
+    take_in_all(answer, PAGELEDGER_ANSWER_NUMBERS);
     seen[4 * (answer[PAGELEDGER_ANSWER_WHAT] & 3) + (answer[PAGELEDGER_ANSWER_LEVEL] & 3)]++;
 }
 
@@ -91,11 +105,9 @@ static void ask_at_random(void)
     take_in(pageledger_frame(BOTH, f, answer, PAGELEDGER_ANSWER_NUMBERS));
     take_in(pageledger_guest(BOTH, g, answer + 3, PAGELEDGER_ANSWER_NUMBERS - 3));
     take_in(pageledger_shared_with(BOTH, f, g));
-    for (int i = 0; i < PAGELEDGER_ANSWER_NUMBERS; i++)
-        take_in(answer[i]);
+    take_in_all(answer, PAGELEDGER_ANSWER_NUMBERS);
     take_in(pageledger_translation(BOTH, g, a, access, answer, PAGELEDGER_ANSWER_NUMBERS));
-    for (int i = 0; i < PAGELEDGER_ANSWER_NUMBERS; i++)
-        take_in(answer[i]);
+    take_in_all(answer, PAGELEDGER_ANSWER_NUMBERS);
 }
 
 int main(void)
@@ -113,9 +125,9 @@ int main(void)
             seen[answered & 15]++;
             ask_at_random();
             if (i % 50 == 0)
-                take_in_both();
+                take_in_state();
         }
-        take_in_both();
+        take_in_state();
     }
     show("operations", ROUNDS * OPERATIONS);
     return 0;
