@@ -1,5 +1,5 @@
 /* The same walks and operations on every processor: prints how often each answer was given, and a digest of every answer, of RAM and of
- * what the ledger says on the way. tests/digest.expected is what a build must print, wherever it runs: the x86-64 library printed it, which
+ * what the ledger says on the way. tests/digest.numbers is what a build must print, wherever it runs: the x86-64 library printed it, which
  * host/ holds to a second implementation of documents 01 and 03. */
 #include <inttypes.h>
 #include <stdio.h>

@@ -57,7 +57,7 @@ def linked_alone(folder, triple, helpers, work):
 
 def digests(work):
     """Yields each library that can be run here, with what is wrong with what tests/digest.c prints over it, or None."""
-    here, expected = f"{platform.machine()}-linux", (HERE / "tests/digest.expected").read_text()
+    here, expected = f"{platform.machine()}-linux", (HERE / "tests/digest.numbers").read_text()
     builds = {here: (["cc"], [])}
     if shutil.which("aarch64-linux-gnu-gcc") and shutil.which("qemu-aarch64"):
         builds |= {folder: (["aarch64-linux-gnu-gcc", "-static"], ["qemu-aarch64"]) for folder in ("aarch64-linux", "aarch64-none-elf")}
