@@ -7,6 +7,7 @@ pub mod Steps
 pub mod Runs
 pub mod Answered
 pub mod TwoComputers
+pub mod BesideItself
 pub mod OnSlices
 pub mod Contents
 pub mod Possible

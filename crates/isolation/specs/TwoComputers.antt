@@ -57,7 +57,7 @@ stores x x′ h f o b a = record { lives = a .lives; in-ram = a .in-ram; in-fram
 
 -- each step of the two is one of the model's
 module _ (g : ℕ) where
-  apart-is : {R R′ : T.Frames} {x y x′ y′ : Slices} → Fit x → Fit y → Apart g R x y R′ x′ y′ → T.Apart g R (machine x) (machine y) R′ (machine x′) (machine y′)
+  pub apart-is : {R R′ : T.Frames} {x y x′ y′ : Slices} → Fit x → Fit y → Apart g R x y R′ x′ y′ → T.Apart g R (machine x) (machine y) R′ (machine x′) (machine y′)
   apart-is {R} {x} {y} {x′} hx hy (first-calls c r a quiet) =
       subst (λ (z : M.Machine). T.Apart g R (machine x) (machine y) R z (machine y)) (sym (after-call x x′ c r a))
       (T.first-calls (asked x c) (chosen-so hx c) (was-quiet g x x′ c r a quiet))
@@ -100,7 +100,7 @@ runs-are : {g : ℕ} {R R′ : T.Frames} {x y x′ y′ : Slices} → Fit x → 
 runs-are hx hy stop = T.stop
 runs-are {g} hx hy (then s r) = T.then (apart-is g hx hy s) (runs-are (run-fits hx (firsts s)) (run-fits hy (seconds s)) r)
 
--- The hypotheses: each half is a run as in all other theorems.
+-- The hypotheses: each half is a run as in all other theorems; and they can be met, see BesideItself.
 pub are-runs : {g : ℕ} {R R′ : T.Frames} {x y x′ y′ : Slices} → Runs-apart g R x y R′ x′ y′ → S.Run x x′ × S.Run y y′
 are-runs stop = (S.stop, S.stop)
 are-runs (then s r) = let more = are-runs r in (S.joined (firsts s) (more .0), S.joined (seconds s) (more .1))

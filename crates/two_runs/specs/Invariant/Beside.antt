@@ -76,13 +76,13 @@ module _ (g : ℕ) (s : State) where
 
 -- each frame corresponds to itself
 module _ (g : ℕ) (R : Frames) (m : Machine) (p : Seen g R m m) (same : (f f′ : ℕ) → R f f′ → f ≡ f′) where
-  itself : (f : ℕ) → (role-of (m .state) g f ≡ 0 → ⊥) → R f f
+  pub itself : (f : ℕ) → (role-of (m .state) g f ≡ 0 → ⊥) → R f f
   itself f n = let w = p .covers .there f n in rw (sym (same f (w .0) (w .1))) at (w .1)
 
-  abbrev Beside : Operation → Type 0
+  abbrev pub Beside : Operation → Type 0
   Beside o = Matches g R (m .state) (m .state) o o
 
-  match-itself : (o : Operation) → concerns g o ≡ true → (s′ : State) → answer (m .state) o ≡ done s′ → Beside o
+  pub match-itself : (o : Operation) → concerns g o ≡ true → (s′ : State) → answer (m .state) o ≡ done s′ → Beside o
   match-itself (Create h pick) e s′ d = let q = eqb-true h g e in rw q creates
   match-itself (Give f h) e s′ d = let q = eqb-true h g e in rw q gives
   match-itself (Take f h) e s′ d = let q = eqb-true h g e in rw q (takes (itself f (taken-role g (m .state) f s′ (rw q at d))))
