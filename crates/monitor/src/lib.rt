@@ -3,9 +3,9 @@
 pub mod questions;
 pub mod start;
 
-pub use guests::create;
-pub use guests::destroy;
-pub use guests::invalidated;
+pub use creating::create;
+pub use destroying::destroy;
+pub use invalidating::invalidated;
 pub use mapping::map;
 pub use pages::give;
 pub use pages::take;
