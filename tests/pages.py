@@ -1,5 +1,5 @@
 #!/usr/bin/env python3
-"""pages.py: tools/assurance, tools/architecture and tools/figures notice what they should, on a small tree of their own."""
+"""pages.py: tools/assurance, architecture, repeats and figures notice what they should, on a small tree of their own."""
 
 import pathlib
 import shutil
@@ -22,6 +22,7 @@ TREE = {
     "tests/it.py": "def first():\n    pass\n",
     "docs/TRUST.md": "# Trust\n\n## 2. The kit\n",
     "docs/ASSURANCE.md": f"# Page\n\n| no. | sentence | statement | code | noticed by |\n|---|---|---|---|---|\n{ROW}\n",
+    "docs/DECISIONS.md": "# Page\n\n### 1. What repeats, and stays\nNothing.\n\n## End\n",
     "docs/ARCHITECTURE.md": "# Page\n\n| step | code |\n|---|---|\n| 1 | `low::read::word` |\n",
 }
 # What is done to the tree (a file, what stands there, what stands there then), and what tools/assurance then says.
@@ -52,7 +53,7 @@ def made(room):
         path.parent.mkdir(parents=True, exist_ok=True)
         path.write_text(text, encoding="utf-8")
     pathlib.Path(room, "tools").mkdir()
-    for tool in ("assurance", "architecture", "figures"):
+    for tool in ("assurance", "architecture", "repeats", "figures"):
         shutil.copy(TOOLS / tool, f"{room}/tools")
 
 
@@ -101,6 +102,19 @@ def check_architecture(count):
         count.check("a picture gone stale", wants(run(room, "architecture", "--check"), 1, "is not what the crates give"))
 
 
+def check_repeats(count):
+    with tempfile.TemporaryDirectory() as room:
+        made(room)
+        count.check("nothing repeats", wants(run(room, "repeats", "15"), 0, "0 things are wrong"))
+        word = TREE["crates/low/src/read.rt"].partition("\n")[2]
+        edited(room, "crates/low/src/read.rt", word, f"{word}\n{word.replace('word', 'half').replace('at', 'place')}")
+        count.check("a function twice", wants(run(room, "repeats", "15"), 1, "low/src/read.rt: word\n    low/src/read.rt: half"))
+        edited(room, "docs/DECISIONS.md", "Nothing.", "Short: `low/src/read.rt: word` and `low/src/read.rt: half`.")
+        count.check("with its reason", wants(run(room, "repeats", "15"), 0, "1 that repeat have their reason, 0 things are wrong"))
+        edited(room, "crates/low/src/read.rt", "place", "half(place)")
+        count.check("a reason gone stale", wants(run(room, "repeats", "15"), 1, "a reason for low/src/read.rt: half, which does not repeat"))
+
+
 def check_figures(count):
     with tempfile.TemporaryDirectory() as room:
         made(room)
@@ -117,6 +131,7 @@ def main():
     count = tally.Tally()
     check_assurance(count)
     check_architecture(count)
+    check_repeats(count)
     if shutil.which("git"):
         check_figures(count)
     count.finish()
