@@ -9,10 +9,10 @@ use Rattle.descriptor.specs.declared.Kind.{Kind}
 use Rattle.descriptor.specs.declared.Kind.the-variants.{WalkAbort, Translation, NotModelled, AccessFlag, Permission}
 use Rattle.walk.specs.declared.Answer.{Answer}
 use Rattle.walk.specs.declared.Answer.the-variants.{Found, Fault, During, Refused}
-use Rattle.monitor.specs.declared.FrameKind.{FrameKind}
-use Rattle.monitor.specs.declared.FrameKind.the-variants.{Outside, Monitor, Free, Table, Draining, Page}
-use Rattle.monitor.specs.declared.GuestKind.{GuestKind}
-use Rattle.monitor.specs.declared.GuestKind.the-variants.{Nobody, Absent, Present}
+use Rattle.asking.specs.declared.FrameKind.{FrameKind}
+use Rattle.asking.specs.declared.FrameKind.the-variants.{Outside, Monitor, Free, Table, Draining, Page}
+use Rattle.asking.specs.declared.GuestKind.{GuestKind}
+use Rattle.asking.specs.declared.GuestKind.the-variants.{Nobody, Absent, Present}
 
 abbrev pub number : Kind → ℕ
 number WalkAbort = 1

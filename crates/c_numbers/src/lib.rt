@@ -5,8 +5,8 @@ ghost use mathlib.Core.List.{_++_};
 ghost use Prim.Native.Nat.{_≤_};
 ghost use lib.ListN.{length, drop};
 ghost use Rattle.c_numbers.specs.Answer.{number, numbers, frame-numbers, guest-numbers, seven, three, status, told};
-use monitor::FrameKind;
-use monitor::GuestKind;
+use asking::FrameKind;
+use asking::GuestKind;
 use walk::Answer;
 use walk::Kind;
 

@@ -16,7 +16,7 @@ use Rattle.ledger.specs.Layout.{first-of, size-of, root-of, exists-of, word-of,
 use Rattle.ledger.specs.Sound.{Sound, chosen}
 use Rattle.monitor.specs.Answers as A
 use Rattle.monitor.specs.SetUp as S
-use Rattle.monitor.specs.Questions.{translated}
+use Rattle.asking.specs.Questions.{translated}
 use Rattle.language.specs.declared.Operation.{Operation}
 use Rattle.language.specs.declared.Operation.the-variants.{Create, Give, Map, Unmap, Share, Unshare, Take, Destroy, Invalidated}
 use Rattle.machine.specs.declared.Machine.{Machine}

@@ -13,7 +13,7 @@ use Rattle.ledger.specs.Layout.{words-for, first-of, kind-of, exists-of, root-o
 use Rattle.ledger.specs.Sound.{Sound}
 use Rattle.monitor.specs.Answers.{Answers}
 use Rattle.monitor.specs.SetUp as Start
-use Rattle.monitor.specs.Questions.{guest-told}
+use Rattle.asking.specs.Questions.{guest-told}
 use Rattle.machine.specs.Operations.{operation}
 use Rattle.language.specs.declared.Operation.{Operation}
 use Rattle.language.specs.declared.Command.{Command}

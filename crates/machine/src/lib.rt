@@ -2,8 +2,8 @@
 ghost use mathlib.Core.Path.{_≡_};
 ghost use mathlib.Core.Bool.{false};
 ghost use Rattle.machine.specs.Machine.{Kept, Executed};
+use asking::GuestKind;
 use language::Command;
-use monitor::GuestKind;
 use walk::Answer;
 
 mod operations;

@@ -3,7 +3,7 @@ ghost use mathlib.Core.Path.{_≡_};
 ghost use mathlib.Core.Bool.{cond};
 ghost use Rattle.ledger.specs.Layout.{exists-of, state-of};
 ghost use Rattle.ledger.specs.Sound.{Sound};
-ghost use Rattle.monitor.specs.Questions.{guest-told, translated};
+ghost use Rattle.asking.specs.Questions.{guest-told, translated};
 ghost use Rattle.machine.specs.declared.Reply.the-variants.{Code, Walked, Guest};
 ghost use Rattle.machine.specs.Machine.{Within, Kept, ramOf, ledgerOf, walkedOne, walkedBoth, translation as translation·of, told, said};
 use super::Machine;
@@ -11,7 +11,6 @@ use super::Reply;
 use super::words::peek_word;
 use language::Question;
 use ledger::guest;
-use monitor::questions;
 
 fn walk_one(m: Machine, ram: &[u8], root: u64, ipa: u64, access: u64) -> Reply
     requires { ⌜ Within m (now ram) ⌝ }
@@ -34,7 +33,7 @@ fn translation(ram: &[u8], ledger: &[u32], g: u64, ipa: u64, access: u64) -> Rep
     ensures { λ r. ⌜ r ≡ cond (exists-of (now (ledger .entry)) g) (Walked (translated (now (ram .entry)) (now (ledger .entry)) g ipa access)) (Code 5) ⌝ }
 {
     if guest::exists(ledger, g) {
-        return Reply::Walked(questions::translation(ram, ledger, g, ipa, access));
+        return Reply::Walked(asking::translation(ram, ledger, g, ipa, access));
     }
     Reply::Code(5)
 }
@@ -58,7 +57,7 @@ fn what_guest(m: Machine, ram: &[u8], ledger: &[u32], g: u64) -> Reply
     if m.ready {
         let n = (4096 * m.frames) as usize;
         let w = (144 + 16 * m.frames) as usize;
-        return Reply::Guest(questions::what_guest(&ram[..n], &ledger[..w], g));
+        return Reply::Guest(asking::what_guest(&ram[..n], &ledger[..w], g));
     }
     Reply::NoLedger
 }

@@ -1,4 +1,4 @@
--- What callers of the monitor cite: the operations' definitions, from the crates that have them; set-up; the questions.
+-- What callers of the monitor cite: the operations' definitions, from the crates that have them; set-up.
 pub use Rattle.operation.specs.Answers
 pub use Rattle.operation.specs.Found
 pub use Rattle.creating.specs.Create
@@ -10,4 +10,3 @@ pub use Rattle.sharing.specs.Share
 pub use Rattle.unmapping.specs.Unmap
 pub use Rattle.mapping.specs.Map
 pub mod SetUp
-pub mod Questions

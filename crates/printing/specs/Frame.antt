@@ -5,9 +5,9 @@ use Prim.Native.Nat.{ℕ, zero, suc}
 use lib.Dec.{eqb, leb}
 use lib.ListN.{length}
 use Rattle.model.specs.State.{State, guests}
-use Rattle.monitor.specs.declared.FrameKind.{FrameKind}
-use Rattle.monitor.specs.declared.FrameKind.the-variants.{Outside, Monitor, Free, Table, Draining, Page}
-use Rattle.monitor.specs.Questions.{frame-told, share-told}
+use Rattle.asking.specs.declared.FrameKind.{FrameKind}
+use Rattle.asking.specs.declared.FrameKind.the-variants.{Outside, Monitor, Free, Table, Draining, Page}
+use Rattle.asking.specs.Questions.{frame-told, share-told}
 use Rattle.text.specs.Text.{ascii}
 use Rattle.text.specs.Digits.{decimalOf}
 

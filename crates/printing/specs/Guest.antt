@@ -2,8 +2,8 @@
 use mathlib.Core.Bool.{Bool, cond}
 use mathlib.Core.List.{List, [], _++_}
 use Prim.Native.Nat.{ℕ}
-use Rattle.monitor.specs.declared.GuestKind.{GuestKind}
-use Rattle.monitor.specs.declared.GuestKind.the-variants.{Nobody, Absent, Present}
+use Rattle.asking.specs.declared.GuestKind.{GuestKind}
+use Rattle.asking.specs.declared.GuestKind.the-variants.{Nobody, Absent, Present}
 use Rattle.text.specs.Text.{ascii}
 use Rattle.text.specs.Digits.{hexOf}
 

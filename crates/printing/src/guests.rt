@@ -3,7 +3,7 @@ ghost use Prim.Native.Nat.{_+_, _≤_};
 ghost use lib.ListN.{length};
 ghost use Rattle.text.specs.Wrote.{Wrote};
 ghost use Rattle.printing.specs.Guest.{dirtyText, guestText};
-use monitor::GuestKind;
+use asking::GuestKind;
 use text::digits::put;
 use text::digits::put_hex;
 

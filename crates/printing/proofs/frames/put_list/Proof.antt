@@ -6,7 +6,7 @@ use lib.ListN.{length}
 use Rattle.text.specs.Wrote.{Wrote}
 use Rattle.model.specs.State.{guests}
 use Rattle.ledger.specs.Layout.{state-of}
-use Rattle.monitor.specs.Questions.{share-told}
+use Rattle.asking.specs.Questions.{share-told}
 use Rattle.printing.specs.Frame.{listTo}
 use Rattle.printing.proofs.Listing.{list-none, list-passed, list-more, list-empty, list-full}
 use borrow.Author.Needs.{needs}

@@ -20,10 +20,10 @@ use Rattle.ledger.specs.Layout.{size-of, first-of, root-of, exists-of, kind-of,
 use Rattle.ledger.specs.Kinds.{guest-in}
 use Rattle.ledger.specs.Words.{word-is}
 use Rattle.ledger.specs.Sound.{Sound}
-use Rattle.monitor.specs.declared.FrameKind.{FrameKind}
-use Rattle.monitor.specs.declared.FrameKind.the-variants.{Outside, Monitor, Free, Table, Draining, Page}
-use Rattle.monitor.specs.declared.GuestKind.{GuestKind}
-use Rattle.monitor.specs.declared.GuestKind.the-variants.{Nobody, Absent, Present}
+use Rattle.asking.specs.declared.FrameKind.{FrameKind}
+use Rattle.asking.specs.declared.FrameKind.the-variants.{Outside, Monitor, Free, Table, Draining, Page}
+use Rattle.asking.specs.declared.GuestKind.{GuestKind}
+use Rattle.asking.specs.declared.GuestKind.the-variants.{Nobody, Absent, Present}
 
 abbrev pub kind-told : Kind → (mapped : ℕ) → FrameKind
 kind-told monitor n = Monitor

@@ -4,13 +4,28 @@ ghost use mathlib.Core.Bool.{true};
 ghost use Prim.Native.Nat.{_+_, _*_};
 ghost use Rattle.ledger.specs.Layout.{first-of, root-of, exists-of, state-of};
 ghost use Rattle.ledger.specs.Sound.{Sound};
-ghost use Rattle.monitor.specs.Questions.{frame-told, share-told, guest-told, translated};
-use super::FrameKind;
-use super::GuestKind;
+ghost use Rattle.asking.specs.Questions.{frame-told, share-told, guest-told, translated};
 use ledger::frame;
 use ledger::guest;
 use ledger::header;
 use walk::Answer;
+
+// What a frame is; Outside where there is no such frame. A page is mapped in so many places.
+pub enum FrameKind {
+    Outside,
+    Monitor,
+    Free,
+    Table(u64),
+    Draining(u64),
+    Page { owner: u64, mapped: u64 },
+}
+
+// What a guest is, with its root table's physical address; Nobody where there is no such number.
+pub enum GuestKind {
+    Nobody,
+    Absent { dirty: bool },
+    Present { root: u64, dirty: bool },
+}
 
 // What frame f is.
 pub fn what_frame(ram: &[u8], ledger: &[u32], f: u64) -> FrameKind
