@@ -109,7 +109,7 @@ def page(rows, growth, load):
         "The library's time for one operation, as a multiple of its time at 16 frames in the same run. Set-up, destroy and invalidated look at",
         "every frame. The others look at a fixed number of frames; what they gain or lose is the processor's caches: at 65,536 frames the page",
         "that give clears, and its row of the ledger, are not in them. Counted once by valgrind, the instructions of create, give, share, unshare, map,",
-        "unmap and take are the same at 16 and at 65,536 frames (share 38, unmap 63, take 53, and 4,170 for give, which clears the frame).",
+        "unmap and take are the same at 16 and at 65,536 frames (share 41, unmap 63, take 54, and 4,169 for give, which clears the frame).",
         "",
         *growth_table(growth),
         "",
