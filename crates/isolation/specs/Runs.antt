@@ -1,5 +1,5 @@
 -- Any sequence of calls of the monitor's functions on the two slices, with guests' stores of bytes between them, from a set-up that was answered with 0, is a run of the model from set-up.
--- So every theorem of the model's page Isolation about one run holds of the two slices; and what each function requires is met before every call.
+-- So every theorem of the page Isolation about one run of the model holds of the two slices; and what each function requires is met before every call.
 use mathlib.Core.Path.{_≡_, refl, sym, ap}
 use mathlib.Core.Bool.{Bool, true, false, _&&_}
 use mathlib.Core.List.{List}
