@@ -2,8 +2,8 @@
 ghost use mathlib.Core.Path.{_≡_};
 ghost use lib.ListN.{length};
 ghost use Rattle.walk.specs.Both.{answer-2, answer as answer·of};
-ghost use Rattle.c_numbers.specs.Answer.{numbers, status, told};
-use c_numbers;
+ghost use Rattle.c_answers.specs.Answer.{numbers, status, told};
+use c_answers;
 
 // Stage 2 alone: `access` is 0 to read, 1 to write, 2 to execute.
 #[no_mangle]
@@ -19,7 +19,7 @@ pub extern "C" fn pageledger_stage2(
     ensures { λ r. ⌜ r ≡ status 7 (length (now (out .entry))) ⌝ }
     ensures { λ r. ⌜ now (out .exit) ≡ told 7 (numbers (answer-2 (now (ram .entry)) base frames root ipa access)) (now (out .entry)) ⌝ }
 {
-    c_numbers::tell(out, walk::stage2(ram, base, frames, root, ipa, access))
+    c_answers::tell(out, walk::stage2(ram, base, frames, root, ipa, access))
 }
 
 // Both stages: `el` is 0 for EL0, 1 for EL1.
@@ -38,7 +38,7 @@ pub extern "C" fn pageledger_both_stages(
     ensures { λ r. ⌜ r ≡ status 7 (length (now (out .entry))) ⌝ }
     ensures { λ r. ⌜ now (out .exit) ≡ told 7 (numbers (answer·of (now (ram .entry)) base frames root1 root2 va access el)) (now (out .entry)) ⌝ }
 {
-    c_numbers::tell(
+    c_answers::tell(
         out,
         walk::both_stages(ram, base, frames, root1, root2, va, access, el),
     )

@@ -7,11 +7,11 @@ use Prim.Native.Nat.{ℕ}
 use Rattle.model.specs.Base.{eq?, bool?}
 use Rattle.model.specs.Operations.{done}
 use Rattle.model.specs.Machine as M
-use Rattle.two_runs.specs.Theorems.TwoRunsTerms.{shown}
-use Rattle.two_runs.specs.Theorems.ApartTerms as T
-use Rattle.two_runs.specs.Invariant.ApartSteps.{shown-role}
-use Rattle.two_runs.specs.Invariant.ApartRuns.{Seen, step-apart, start-seen}
-use Rattle.two_runs.specs.Invariant.Beside.{itself, match-itself}
+use Rattle.model_noninterference.specs.Theorems.TwoRunsTerms.{shown}
+use Rattle.model_noninterference.specs.Theorems.ApartTerms as T
+use Rattle.model_noninterference.specs.Invariant.ApartSteps.{shown-role}
+use Rattle.model_noninterference.specs.Invariant.ApartRuns.{Seen, step-apart, start-seen}
+use Rattle.model_noninterference.specs.Invariant.Beside.{itself, match-itself}
 use Rattle.ledger.specs.Layout.{pick-of}
 use Rattle.isolation.specs.Calls.{Call, defined-is}
 use Rattle.isolation.specs.Slices as S

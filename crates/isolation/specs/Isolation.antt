@@ -10,7 +10,7 @@ use Rattle.model.specs.State.{State, Kind, page, table, byte}
 use Rattle.model.specs.Operations.{done, create}
 use Rattle.model.specs.Cache.{Access}
 use Rattle.model.specs.Machine.{Machine, SetUp, Run, Step, Operation, Create, answer, Chooses, call, Reaches}
-use Rattle.moments.specs.Moments.{stores-of, Safe, Throughout, FineRun}
+use Rattle.model_moments.specs.Moments.{stores-of, Safe, Throughout, FineRun}
 use Rattle.model.specs.Theorems.Terms.{lends, Allowed, Handed, Laid}
 use Rattle.model.specs.Theorems.Reach as R
 use Rattle.model.specs.Theorems.TwoGuests as T
@@ -21,12 +21,12 @@ use Rattle.model.specs.Theorems.BecomesTable as B
 use Rattle.model.specs.Theorems.TakingOut as O
 use Rattle.model.specs.Theorems.NewGuest as N
 use Rattle.model.specs.Theorems.Contents as C
-use Rattle.moments.specs.Theorems.Moments as M
-use Rattle.moments.specs.Theorems.Finely as F
-use Rattle.two_runs.specs.Theorems.TwoRunsTerms.{Two-runs, Same-start}
-use Rattle.two_runs.specs.Theorems.TwoRuns as S
-use Rattle.two_runs.specs.Theorems.ApartTerms.{Frames, Runs-apart, no-frames, Reads}
-use Rattle.two_runs.specs.Theorems.TwoRunsApart as A
+use Rattle.model_moments.specs.Theorems.Moments as M
+use Rattle.model_moments.specs.Theorems.Finely as F
+use Rattle.model_noninterference.specs.Theorems.TwoRunsTerms.{Two-runs, Same-start}
+use Rattle.model_noninterference.specs.Theorems.TwoRuns as S
+use Rattle.model_noninterference.specs.Theorems.ApartTerms.{Frames, Runs-apart, no-frames, Reads}
+use Rattle.model_noninterference.specs.Theorems.TwoRunsApart as A
 
 module _ {m z : Machine} (set-up : SetUp m) (run : Run m z) where
   -- What g reaches is its own page, or a page shared with it for that access, or a frame that drains for it; so never the ledger, which is outside RAM.

@@ -8,9 +8,9 @@ use Prim.Native.Nat.{ℕ}
 use Rattle.model.specs.State.{State}
 use Rattle.model.specs.Operations.{Out, refuse, done}
 use Rattle.model.specs.Machine as M
-use Rattle.two_runs.specs.Theorems.TwoRunsTerms.{shown, Same-bytes, answered, Stores}
-use Rattle.two_runs.specs.Theorems.ApartTerms as T
-use Rattle.two_runs.specs.Theorems.TwoRunsApart as A
+use Rattle.model_noninterference.specs.Theorems.TwoRunsTerms.{shown, Same-bytes, answered, Stores}
+use Rattle.model_noninterference.specs.Theorems.ApartTerms as T
+use Rattle.model_noninterference.specs.Theorems.TwoRunsApart as A
 use Rattle.ledger.specs.Layout.{state-in, state-of, pick-of}
 use Rattle.isolation.specs.Calls.{Call, defined, in-model, defined-is}
 use Rattle.isolation.specs.Slices.{Slices, machine, Called, Stored, called, stored, Begun}

@@ -1,4 +1,4 @@
-// The cells of the ledger's rows, for this crate and free_set: the only functions that know where a cell lies.
+// The cells of the ledger's rows, for this crate and ledger_free: the only functions that know where a cell lies.
 ghost use mathlib.Core.Path.{_≡_};
 ghost use Prim.Native.Nat.{_<_, _≤_, _^_};
 ghost use lib.ListN.{length};

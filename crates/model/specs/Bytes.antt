@@ -7,7 +7,7 @@ use mathlib.Core.Option.{Option, none, some}
 use Prim.Native.Nat.{ℕ, _+_, _*_, _-_, _<_, _/_, _%_}
 use lib.ListN.{length}
 use Rattle.memory.specs.Word.{wordAt}
-use Rattle.descriptor.specs.declared.Kind.the-variants.{Translation, Permission}
+use Rattle.walk_descriptor.specs.declared.Kind.the-variants.{Translation, Permission}
 use Rattle.walk.specs.declared.Answer.{Answer}
 use Rattle.walk.specs.Both.{One, reached, failed, tell-2}
 use Rattle.model.specs.State.{State}

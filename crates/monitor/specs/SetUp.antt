@@ -12,9 +12,9 @@ use Rattle.model.specs.State.{State, pages}
 use Rattle.model.specs.Operations.{Out, done, refusal, check, set-up, started}
 use Rattle.model.specs.Invariant.Holds.{started-core}
 use Rattle.ledger.specs.Layout.{words-for, most-frames, size-of, word-of, state-in}
-use Rattle.free_set.specs.Start.{LaidOut}
+use Rattle.ledger_free.specs.Start.{LaidOut}
 use Rattle.ledger.specs.Sound.{Sound}
-use Rattle.operation.specs.Answers.{Outcome, refused-so, stops, goes-on, through, and-left, and-right, and-both}
+use Rattle.monitor_contract.specs.Answers.{Outcome, refused-so, stops, goes-on, through, and-left, and-right, and-both}
 
 -- the slices have the lengths that n asks for
 unfoldable pub slices-fit : (n : ℕ) (ram ledger : List ℕ) → Bool

@@ -2,7 +2,7 @@
 ghost use mathlib.Core.Path.{_≡_};
 ghost use Rattle.model.specs.Operations.{refusal};
 ghost use Rattle.monitor.specs.SetUp.{setting-up, SetUp};
-use free_set::start;
+use ledger_free::start;
 
 fn check_set_up(ram: &[u8], ledger: &[u32], n: u64, b: u64, k: u64) -> u64
     ensures { λ r. ⌜ r ≡ refusal (setting-up n b k (now (ram .entry)) (now (ledger .entry))) ⌝ }

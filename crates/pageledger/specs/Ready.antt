@@ -2,7 +2,7 @@
 use Prim.Native.Nat.{ℕ, _+_, _/_, _≤_}
 use mathlib.Core.List.{List}
 use lib.ListN.{length}
-use Rattle.machine.specs.Machine.{Kept}
+use Rattle.script_machine.specs.Machine.{Kept}
 use Rattle.pageledger.specs.declared.State.{State}
 
 -- for a line and an output of so many bytes: the line that is gathered fits, the machine can count on RAM and ledger, and the output has room for an answer

@@ -6,7 +6,7 @@ ghost use Rattle.script.specs.Answers.{Room};
 ghost use Rattle.pageledger.specs.Ready.{Ready};
 use libc::STDIN_FILENO;
 use libc::STDOUT_FILENO;
-use machine::Machine;
+use script_machine::Machine;
 
 // The machine, and how many bytes of the line and of the output are there.
 struct State {
@@ -111,7 +111,7 @@ fn serve(line: &mut [u8], ram: &mut [u8], ledger: &mut [u32], out: &mut [u8]) ->
     ensures { λ r. ⌜ Ready r (length (now (line .entry))) (now (ram .exit)) (now (ledger .exit)) (length (now (out .entry))) ⌝ }
 {
     let mut s = State {
-        machine: machine::no_machine(),
+        machine: script_machine::no_machine(),
         line: 0,
         out: 0,
     };

@@ -3,11 +3,11 @@ use Prim.Native.Nat.{ℕ, _+_, _*_, _/_, _≤_}
 use mathlib.Core.Path.{_≡_}
 use mathlib.Core.List.{List, []}
 use lib.ListN.{take}
-use Rattle.language.specs.declared.Read.{Read}
-use Rattle.language.specs.declared.Read.the-variants.{Nothing, Asked, Unread}
-use Rattle.machine.specs.declared.Machine.{Machine}
-use Rattle.machine.specs.declared.Reply.{Reply}
-use Rattle.machine.specs.Machine.{Kept, Executed, outcome, ramOf, ledgerOf}
+use Rattle.script_language.specs.declared.Read.{Read}
+use Rattle.script_language.specs.declared.Read.the-variants.{Nothing, Asked, Unread}
+use Rattle.script_machine.specs.declared.Machine.{Machine}
+use Rattle.script_machine.specs.declared.Reply.{Reply}
+use Rattle.script_machine.specs.Machine.{Kept, Executed, outcome, ramOf, ledgerOf}
 use Rattle.ledger.specs.Layout.{state-of}
 use Rattle.script.specs.declared.Answered.{Answered}
 use Rattle.script.specs.Line.{replyText, mistakeText}

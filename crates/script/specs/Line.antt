@@ -1,16 +1,16 @@
 -- SCRIPT's table: what is printed.
 use Prim.Native.Nat.{ℕ}
 use mathlib.Core.List.{List, _++_}
-use Rattle.language.specs.declared.Reason.{Reason}
-use Rattle.language.specs.declared.Reason.the-variants.{UnknownCommand, TooFewWords, TooManyWords, NumberExpected, NumberTooLarge, AccessExpected, LevelExpected, NotText, LineTooLong}
-use Rattle.machine.specs.declared.Reply.{Reply}
-use Rattle.machine.specs.declared.Reply.the-variants.{Done, OutsideRam, Code, Contents, Walked, Frame, Guest, Ledger, NoLedger}
+use Rattle.script_language.specs.declared.Reason.{Reason}
+use Rattle.script_language.specs.declared.Reason.the-variants.{UnknownCommand, TooFewWords, TooManyWords, NumberExpected, NumberTooLarge, AccessExpected, LevelExpected, NotText, LineTooLong}
+use Rattle.script_machine.specs.declared.Reply.{Reply}
+use Rattle.script_machine.specs.declared.Reply.the-variants.{Done, OutsideRam, Code, Contents, Walked, Frame, Guest, Ledger, NoLedger}
 use Rattle.model.specs.State.{State}
-use Rattle.printing.specs.Answer.{answerText}
-use Rattle.printing.specs.Frame.{frameText, ledgerText}
-use Rattle.printing.specs.Guest.{guestText}
-use Rattle.text.specs.Text.{ascii}
-use Rattle.text.specs.Digits.{decimalOf, sixteenOf}
+use Rattle.script_print.specs.Answer.{answerText}
+use Rattle.script_print.specs.Frame.{frameText, ledgerText}
+use Rattle.script_print.specs.Guest.{guestText}
+use Rattle.script_text.specs.Text.{ascii}
+use Rattle.script_text.specs.Digits.{decimalOf, sixteenOf}
 
 unfoldable pub reasonText : Reason → List ℕ
 reasonText UnknownCommand = ascii "unknown command"

@@ -2,19 +2,19 @@
 // It reads and writes nothing outside of the slices that it is lent.
 ghost use Prim.Native.Nat.{_≤_};
 ghost use lib.ListN.{length};
-ghost use Rattle.language.specs.Commands.{readOf};
-ghost use Rattle.machine.specs.Machine.{Kept};
+ghost use Rattle.script_language.specs.Commands.{readOf};
+ghost use Rattle.script_machine.specs.Machine.{Kept};
 ghost use Rattle.script.specs.Answers.{Room, Answers};
 
 mod print;
 
-use language::Command;
-use language::Read;
-use language::read_line;
-use machine::Machine;
-use machine::execute;
 use print::put_mistake;
 use print::put_reply;
+use script_language::Command;
+use script_language::Read;
+use script_language::read_line;
+use script_machine::Machine;
+use script_machine::execute;
 
 // The machine after a line, and how many bytes were printed.
 pub struct Answered {

@@ -6,13 +6,13 @@ use mathlib.Core.List.{List, [], _∷_, _++_}
 use mathlib.Core.Option.{Option, none, some}
 use lib.ListN.{length}
 use lib.Dec.{eqb, ltb}
-use Rattle.descriptor.specs.declared.Kind.{Kind}
-use Rattle.descriptor.specs.declared.Kind.the-variants.{WalkAbort, Translation}
+use Rattle.walk_descriptor.specs.declared.Kind.{Kind}
+use Rattle.walk_descriptor.specs.declared.Kind.the-variants.{WalkAbort, Translation}
 use Rattle.walk.specs.declared.Answer.{Answer}
 use Rattle.walk.specs.declared.Answer.the-variants.{Found, Fault, During, Refused}
 use Rattle.walk.specs.Memory.{image-fits, read-at}
-use Rattle.descriptor.specs.Descriptor.{allows-1, allows-2}
-use Rattle.step.specs.Stage.{Stage, walk-from}
+use Rattle.walk_descriptor.specs.Descriptor.{allows-1, allows-2}
+use Rattle.walk_level.specs.Stage.{Stage, walk-from}
 
 pub record Walked (R : Type 0) : Type 0 where
   pub result : R

@@ -7,16 +7,16 @@ use mathlib.Core.Option.{Option, none, some}
 use lib.ListN.{length}
 use Rattle.walk.specs.declared.Answer.{Answer}
 use Rattle.walk.specs.declared.Answer.the-variants.{Found, Fault}
-use Rattle.descriptor.specs.declared.Kind.the-variants.{WalkAbort}
-use Rattle.step.specs.declared.Step.{Step}
-use Rattle.step.specs.declared.Step.the-variants.{Absent}
+use Rattle.walk_descriptor.specs.declared.Kind.the-variants.{WalkAbort}
+use Rattle.walk_level.specs.declared.Step.{Step}
+use Rattle.walk_level.specs.declared.Step.the-variants.{Absent}
 use Rattle.walk.specs.declared.Ended.{Ended}
 use Rattle.walk.specs.declared.Ended.the-variants.{Reached, Failed}
 use Rattle.walk.specs.declared.Turn.{Turn}
 use Rattle.walk.specs.declared.Turn.the-variants.{Next, Told}
 use Rattle.walk.specs.Memory.{read-at}
-use Rattle.step.specs.Stage.{meaning, walk-from}
-use Rattle.step.specs.Step.{step-of}
+use Rattle.walk_level.specs.Stage.{meaning, walk-from}
+use Rattle.walk_level.specs.Step.{step-of}
 use Rattle.walk.specs.Both.{Walked, ends, fetched-at, One, reached, failed, Both, fault, tell, fetch-1, fetch-2, rules-1, rules-2}
 
 abbrev pub step-read : (ℕ → Bool) → ℕ → ℕ → Option ℕ → Step

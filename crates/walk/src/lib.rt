@@ -9,7 +9,7 @@ ghost use Rattle.walk.specs.Both.{root-fits, stage2-fits, both-fits, ans
 mod stage_1;
 mod stage_2;
 
-pub use descriptor::Kind;
+pub use walk_descriptor::Kind;
 
 // `fetched` is the number of descriptors that were read.
 pub enum Answer {

@@ -7,8 +7,8 @@ use super::Answer;
 use super::Ended;
 use super::Turn;
 use super::stage_2;
-use descriptor::Kind;
-use step::Step;
+use walk_descriptor::Kind;
+use walk_level::Step;
 
 // The descriptor of a level, which was reached at the physical address `a`; `before` descriptors were fetched on the way here.
 fn follow(
@@ -64,7 +64,7 @@ fn turn(
     requires { ⌜ (level ≤ 3) × (table < 2 ^ 48) × (root2 < 2 ^ 48) × (before ≤ 15) ⌝ }
     ensures { λ r. ⌜ Turns (now (ram .entry)) base root2 access el va level (before + 5) (told before (rest-1 (now (ram .entry)) base root2 access el va (3 - level) table)) r ⌝ }
 {
-    let ipa = step::place(level, va, table);
+    let ipa = walk_level::place(level, va, table);
     let way = stage_2::walk(ram, base, root2, 0, ipa, before);
     match way {
         Ended::Failed {

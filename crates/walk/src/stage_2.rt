@@ -2,12 +2,12 @@
 ghost use mathlib.Core.Path.{_≡_};
 ghost use Prim.Native.Nat.{_+_, _<_, _≤_, _^_};
 ghost use Rattle.walk.specs.Both.{stage-2, tell-2};
-ghost use Rattle.descriptor.specs.Descriptor.{allows};
+ghost use Rattle.walk_descriptor.specs.Descriptor.{allows};
 ghost use Rattle.walk.specs.Steps.{step-at, tells, ended, Finished};
 use super::Answer;
 use super::Ended;
-use descriptor::Kind;
-use step::Step;
+use walk_descriptor::Kind;
+use walk_level::Step;
 
 // The descriptor at the physical address `a`, for the input address `ia` of a stage.
 pub(crate) fn visit(
@@ -27,7 +27,7 @@ pub(crate) fn visit(
         let at = (a - base) as usize;
         if at + 8 <= ram.len() {
             let d = memory::word(ram, at);
-            return step::examine(stage, el, access, ia, level, d);
+            return walk_level::examine(stage, el, access, ia, level, d);
         }
     }
     Step::Absent
@@ -41,7 +41,7 @@ pub(crate) fn walk(ram: &[u8], base: u64, root: u64, access: u64, ipa: u64, befo
     let mut level: u64 = 0;
     let mut table = root;
     loop {
-        let a = step::place(level, ipa, table);
+        let a = walk_level::place(level, ipa, table);
         let step = visit(ram, base, 2, 0, access, ipa, level, a);
         match step {
             Step::Down(t) => {

@@ -6,9 +6,9 @@ use mathlib.Core.Option.{Option, some}
 use Prim.Native.Nat.{ℕ, zero, suc, _+_, _*_, _-_, _≤_, _<_, _/_, _%_, _^_}
 use native.Mathlib.Omega.{arith}
 use lib.ListN.{length}
-use Rattle.descriptor.specs.declared.Kind.the-variants.{Translation, Permission}
+use Rattle.walk_descriptor.specs.declared.Kind.the-variants.{Translation, Permission}
 use Rattle.walk.specs.Memory.{read-at}
-use Rattle.descriptor.specs.Descriptor.{span, slot, address, allows-2}
+use Rattle.walk_descriptor.specs.Descriptor.{span, slot, address, allows-2}
 use Rattle.walk.specs.Both.{Walked, ends, having-fetched, One, reached, failed, stage-2, tell-2, answer-2}
 use Rattle.walk.specs.Steps.{rest-2}
 use Rattle.walk.proofs.Laws.Level.{read-in, slot-at, stage-2-rest, level-empty, level-table, level-page}

@@ -3,7 +3,7 @@ use mathlib.Core.Path.{_≡_, refl, ap, _∙_}
 use Prim.Native.Nat.{ℕ, zero, suc, _+_, _*_, _-_, _<_, _/_, _%_, _^_}
 use native.Mathlib.Omega.{arith}
 use lib.Dec.{eqb}
-use Rattle.descriptor.specs.Descriptor.{address, allows-2}
+use Rattle.walk_descriptor.specs.Descriptor.{address, allows-2}
 use Rattle.walk.proofs.Laws.Level.{rights-at}
 use Rattle.model.specs.State.{pages}
 use Rattle.model.specs.Entry.{table-entry, page-entry}

@@ -7,9 +7,9 @@ use mathlib.Core.Option.{Option, none, some}
 use Prim.Native.Nat.{ℕ, zero, suc, _+_, _*_, _<_, _/_, _%_, _^_}
 use native.Mathlib.Omega.{arith}
 use native.Mathlib.Nat.{div-add-mod'}
-use Rattle.descriptor.specs.declared.Kind.{Kind}
-use Rattle.descriptor.specs.declared.Kind.the-variants.{Permission}
-use Rattle.descriptor.specs.declared.Kind.the-variants.{Translation as Translation-fault}
+use Rattle.walk_descriptor.specs.declared.Kind.{Kind}
+use Rattle.walk_descriptor.specs.declared.Kind.the-variants.{Permission}
+use Rattle.walk_descriptor.specs.declared.Kind.the-variants.{Translation as Translation-fault}
 use Rattle.walk.specs.Both.{reached, failed, stage-2}
 use Rattle.model.specs.State.{State, table, pages}
 use Rattle.model.specs.Entry.{Entry, empty, to-table, to-page, other}

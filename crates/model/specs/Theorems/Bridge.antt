@@ -7,8 +7,8 @@ use mathlib.Core.Logic.{_⊎_}
 use mathlib.Core.List.{List}
 use mathlib.Core.Option.{some}
 use Prim.Native.Nat.{ℕ, _+_, _*_, _<_, _/_, _%_, _^_}
-use Rattle.descriptor.specs.declared.Kind.{Kind}
-use Rattle.descriptor.specs.declared.Kind.the-variants.{Translation, Permission}
+use Rattle.walk_descriptor.specs.declared.Kind.{Kind}
+use Rattle.walk_descriptor.specs.declared.Kind.the-variants.{Translation, Permission}
 use Rattle.walk.specs.Both.{reached, failed, stage-2, answer-2}
 use Rattle.model.specs.Translate.{translate}
 use Rattle.model.specs.Cache.{Access, grants}

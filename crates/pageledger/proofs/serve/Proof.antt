@@ -3,7 +3,7 @@
 use Prim.Native.Nat.{_≤_}
 use mathlib.Core.Path.{_≡_, refl, _∙_}
 use lib.ListN.{length}
-use Rattle.machine.specs.Laws.{kept-none}
+use Rattle.script_machine.specs.Laws.{kept-none}
 use Rattle.pageledger.specs.Ready.{Ready}
 use borrow.Author.Needs.{needs}
 use native.Mathlib.Omega.{arith}

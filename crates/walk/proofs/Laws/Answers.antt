@@ -6,7 +6,7 @@ use mathlib.Core.List.{List}
 use native.Mathlib.Omega.{arith}
 use lib.ListN.{length}
 use lib.Dec.{ltb}
-use Rattle.descriptor.specs.declared.Kind.the-variants.{WalkAbort, Translation}
+use Rattle.walk_descriptor.specs.declared.Kind.the-variants.{WalkAbort, Translation}
 use Rattle.walk.specs.declared.Answer.{Answer}
 use Rattle.walk.specs.declared.Answer.the-variants.{Found, Fault, During, Refused}
 use Rattle.walk.specs.Memory.{read-at}

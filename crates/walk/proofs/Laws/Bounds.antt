@@ -7,14 +7,14 @@ use mathlib.Core.Option.{Option, none, some}
 use native.Mathlib.Omega.{arith}
 use borrow.Author.Tests.{ltb-true, eqb-true}
 use lib.Dec.{eqb, ltb}
-use Rattle.descriptor.specs.declared.Kind.the-variants.{Translation, NotModelled, AccessFlag, Permission}
-use Rattle.step.specs.declared.Step.{Step}
-use Rattle.step.specs.declared.Step.the-variants.{Absent, Down, Output, Fail}
+use Rattle.walk_descriptor.specs.declared.Kind.the-variants.{Translation, NotModelled, AccessFlag, Permission}
+use Rattle.walk_level.specs.declared.Step.{Step}
+use Rattle.walk_level.specs.declared.Step.the-variants.{Absent, Down, Output, Fail}
 use Rattle.walk.specs.Memory.{image-fits, read-at}
-use Rattle.descriptor.specs.Descriptor.{span, bit, address, is-table, is-valid, is-modelled}
-use Rattle.step.specs.Stage.{valid, leaf, meaning}
+use Rattle.walk_descriptor.specs.Descriptor.{span, bit, address, is-table, is-valid, is-modelled}
+use Rattle.walk_level.specs.Stage.{valid, leaf, meaning}
 use Rattle.walk.specs.Both.{root-fits, stage2-fits, both-fits}
-use Rattle.step.specs.Step.{step-of}
+use Rattle.walk_level.specs.Step.{step-of}
 use Rattle.walk.specs.Steps.{step-read, step-at}
 
 pub and-left : (a b : Bool) → (a && b) ≡ true → a ≡ true

@@ -10,10 +10,10 @@ use borrow.Author.Tests.{lt-ltb, le-leb}
 use lib.Dec.{eqb, ltb}
 use lib.ListN.{length}
 use Rattle.memory.specs.Word.{wordAt}
-use Rattle.descriptor.specs.declared.Kind.the-variants.{WalkAbort, Translation, Permission}
+use Rattle.walk_descriptor.specs.declared.Kind.the-variants.{WalkAbort, Translation, Permission}
 use Rattle.walk.specs.Memory.{read-at}
-use Rattle.descriptor.specs.Descriptor.{span, slot, bit, address, allows-2}
-use Rattle.step.specs.Stage.{valid, leaf, meaning}
+use Rattle.walk_descriptor.specs.Descriptor.{span, slot, bit, address, allows-2}
+use Rattle.walk_level.specs.Stage.{valid, leaf, meaning}
 use Rattle.walk.specs.Both.{ends, having-fetched, fetched-at, reached, failed, rules-2, fetch-2, stage-2}
 use Rattle.walk.specs.Steps.{rest-2}
 use Rattle.walk.proofs.Laws.Turn.{turn-left}

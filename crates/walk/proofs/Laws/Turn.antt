@@ -4,14 +4,14 @@ use mathlib.Core.Path.{_≡_, refl, sym, ap, _∙_}
 use mathlib.Core.Bool.{Bool, true, false, cond, _&&_}
 use native.Mathlib.Omega.{arith}
 use lib.Dec.{eqb}
-use Rattle.descriptor.specs.declared.Kind.the-variants.{Translation, NotModelled, AccessFlag, Permission}
-use Rattle.step.specs.declared.Step.{Step}
-use Rattle.step.specs.declared.Step.the-variants.{Absent, Down, Output, Fail}
-use Rattle.descriptor.specs.Descriptor.{span, slot, bit, address, is-table, is-valid, is-modelled, allows}
-use Rattle.step.specs.Stage.{Stage, valid, leaf, meaning, walk-from}
+use Rattle.walk_descriptor.specs.declared.Kind.the-variants.{Translation, NotModelled, AccessFlag, Permission}
+use Rattle.walk_level.specs.declared.Step.{Step}
+use Rattle.walk_level.specs.declared.Step.the-variants.{Absent, Down, Output, Fail}
+use Rattle.walk_descriptor.specs.Descriptor.{span, slot, bit, address, is-table, is-valid, is-modelled, allows}
+use Rattle.walk_level.specs.Stage.{Stage, valid, leaf, meaning, walk-from}
 use Rattle.walk.specs.Both.{Both}
 use Rattle.walk.specs.Both.{fault}
-use Rattle.step.specs.Step.{step-of}
+use Rattle.walk_level.specs.Step.{step-of}
 
 and-false : (x : Bool) → (x && false) ≡ false
 and-false true = refl

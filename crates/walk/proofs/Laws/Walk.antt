@@ -6,21 +6,21 @@ use mathlib.Core.List.{List, [], _∷_}
 use mathlib.Core.Option.{Option, none, some}
 use native.Mathlib.Omega.{arith}
 use lib.ListN.{length}
-use Rattle.descriptor.specs.declared.Kind.{Kind}
-use Rattle.descriptor.specs.declared.Kind.the-variants.{WalkAbort}
+use Rattle.walk_descriptor.specs.declared.Kind.{Kind}
+use Rattle.walk_descriptor.specs.declared.Kind.the-variants.{WalkAbort}
 use Rattle.walk.specs.declared.Answer.{Answer}
 use Rattle.walk.specs.declared.Answer.the-variants.{During}
 use Rattle.walk.specs.declared.Ended.{Ended}
 use Rattle.walk.specs.declared.Ended.the-variants.{Reached, Failed}
 use Rattle.walk.specs.declared.Turn.{Turn}
 use Rattle.walk.specs.declared.Turn.the-variants.{Next, Told}
-use Rattle.step.specs.declared.Step.{Step}
-use Rattle.step.specs.declared.Step.the-variants.{Absent, Down, Output, Fail}
-use Rattle.descriptor.specs.Descriptor.{slot, allows}
-use Rattle.step.specs.Stage.{Stage, meaning}
+use Rattle.walk_level.specs.declared.Step.{Step}
+use Rattle.walk_level.specs.declared.Step.the-variants.{Absent, Down, Output, Fail}
+use Rattle.walk_descriptor.specs.Descriptor.{slot, allows}
+use Rattle.walk_level.specs.Stage.{Stage, meaning}
 use Rattle.walk.specs.Memory.{read-at}
 use Rattle.walk.specs.Both.{Walked, ends, fetched-at, One, reached, failed, Both, found, fault, during, by-result, through, tell, tell-2, rules-1, rules-2, fetch-1, fetch-2, stage-1, stage-2}
-use Rattle.step.specs.Step.{step-of}
+use Rattle.walk_level.specs.Step.{step-of}
 use Rattle.walk.specs.Steps.{Finished, step-read, step-at, tells, end-by, ended, told, rest-1, rest-2, here-1, turn-to, Turns}
 use Rattle.walk.proofs.Laws.Turn.{turn, play, plays}
 use Rattle.walk.proofs.Laws.Told.{goes-on, tells-more, tells-now, told-through}

@@ -5,13 +5,13 @@ use mathlib.Core.Path.{_≡_, refl, sym, subst}
 use mathlib.Core.Option.{Option, none, some}
 use native.Mathlib.Omega.{arith}
 use lib.ListN.{length, length-append}
-use Rattle.descriptor.specs.declared.Kind.{Kind}
-use Rattle.descriptor.specs.declared.Kind.the-variants.{Translation}
-use Rattle.step.specs.declared.Step.{Step}
-use Rattle.step.specs.declared.Step.the-variants.{Absent, Down, Output, Fail}
-use Rattle.descriptor.specs.Descriptor.{slot}
-use Rattle.step.specs.Stage.{Stage, meaning, walk-from}
-use Rattle.step.specs.Step.{step-of}
+use Rattle.walk_descriptor.specs.declared.Kind.{Kind}
+use Rattle.walk_descriptor.specs.declared.Kind.the-variants.{Translation}
+use Rattle.walk_level.specs.declared.Step.{Step}
+use Rattle.walk_level.specs.declared.Step.the-variants.{Absent, Down, Output, Fail}
+use Rattle.walk_descriptor.specs.Descriptor.{slot}
+use Rattle.walk_level.specs.Stage.{Stage, meaning, walk-from}
+use Rattle.walk_level.specs.Step.{step-of}
 use Rattle.walk.specs.Both.{Walked, fetched-at, One, reached, failed, by-result, through, Both}
 use Rattle.walk.proofs.Laws.Turn.{play, plays, turn-last}
 use Rattle.walk.proofs.Laws.Bounds.{Sane, step-of-sane}

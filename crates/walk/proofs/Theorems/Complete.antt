@@ -8,15 +8,15 @@ use mathlib.Core.Option.{Option, none, some}
 use native.Mathlib.Omega.{arith}
 use borrow.Author.Tests.{lt-ltb}
 use lib.ListN.{length, length-append}
-use Rattle.descriptor.specs.declared.Kind.the-variants.{WalkAbort, Translation}
-use Rattle.step.specs.declared.Step.{Step}
-use Rattle.step.specs.declared.Step.the-variants.{Absent, Down, Output, Fail}
+use Rattle.walk_descriptor.specs.declared.Kind.the-variants.{WalkAbort, Translation}
+use Rattle.walk_level.specs.declared.Step.{Step}
+use Rattle.walk_level.specs.declared.Step.the-variants.{Absent, Down, Output, Fail}
 use Rattle.walk.specs.Memory.{read-at}
-use Rattle.descriptor.specs.Descriptor.{slot, allows-1}
-use Rattle.step.specs.Stage.{Stage, meaning, walk-from}
+use Rattle.walk_descriptor.specs.Descriptor.{slot, allows-1}
+use Rattle.walk_level.specs.Stage.{Stage, meaning, walk-from}
 use Rattle.walk.specs.Both.{Walked, ends, fetched-at, One, reached, failed, Both, found, fault, during, by-result}
 use Rattle.walk.specs.Both.{rules-1, fetch-1, stage-1, stage-2, both}
-use Rattle.step.specs.Step.{step-of}
+use Rattle.walk_level.specs.Step.{step-of}
 use Rattle.walk.specs.Steps.{rest-1}
 use Rattle.walk.proofs.Laws.Turn.{play, plays, turn-last}
 

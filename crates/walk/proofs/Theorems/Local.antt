@@ -8,18 +8,18 @@ use mathlib.Core.Option.{Option, none, some}
 use lib.Dec.{ltb, leb}
 use lib.ListN.{length}
 use Rattle.memory.specs.Word.{wordAt}
-use Rattle.descriptor.specs.declared.Kind.{Kind}
-use Rattle.descriptor.specs.declared.Kind.the-variants.{WalkAbort, Translation}
+use Rattle.walk_descriptor.specs.declared.Kind.{Kind}
+use Rattle.walk_descriptor.specs.declared.Kind.the-variants.{WalkAbort, Translation}
 use Rattle.walk.specs.declared.Answer.{Answer}
 use Rattle.walk.specs.declared.Answer.the-variants.{Refused}
-use Rattle.step.specs.declared.Step.{Step}
-use Rattle.step.specs.declared.Step.the-variants.{Absent, Down, Output, Fail}
+use Rattle.walk_level.specs.declared.Step.{Step}
+use Rattle.walk_level.specs.declared.Step.the-variants.{Absent, Down, Output, Fail}
 use Rattle.walk.specs.Memory.{in-ram, read-at}
-use Rattle.descriptor.specs.Descriptor.{slot}
-use Rattle.step.specs.Stage.{Stage, meaning, walk-from}
+use Rattle.walk_descriptor.specs.Descriptor.{slot}
+use Rattle.walk_level.specs.Stage.{Stage, meaning, walk-from}
 use Rattle.walk.specs.Both.{Walked, ends, having-fetched, fetched-at, One, reached, failed, Both, found, fault, during, by-result, through, tell, tell-2}
 use Rattle.walk.specs.Both.{rules-1, rules-2, fetch-1, fetch-2, stage-1, stage-2, both, stage2-fits, both-fits, answer-2, answer}
-use Rattle.step.specs.Step.{step-of}
+use Rattle.walk_level.specs.Step.{step-of}
 use Rattle.walk.proofs.Laws.Turn.{play, plays, turn-last}
 
 -- the images m and m′ agree on the words at these physical addresses

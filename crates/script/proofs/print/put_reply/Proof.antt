@@ -3,12 +3,12 @@
 use mathlib.Core.Path.{_≡_}
 use mathlib.Core.Bool.{true}
 use Prim.Native.Nat.{ℕ}
-use Rattle.machine.specs.declared.Machine.{Machine}
-use Rattle.machine.specs.declared.Reply.{Reply}
-use Rattle.machine.specs.declared.Reply.the-variants.{Frame, Ledger}
-use Rattle.machine.specs.Laws.{Tellable}
+use Rattle.script_machine.specs.declared.Machine.{Machine}
+use Rattle.script_machine.specs.declared.Reply.{Reply}
+use Rattle.script_machine.specs.declared.Reply.the-variants.{Frame, Ledger}
+use Rattle.script_machine.specs.Laws.{Tellable}
 use Rattle.script.specs.Line.{replyText}
-use Rattle.text.proofs.Printing.{wrote-then, wrote-within}
+use Rattle.script_text.proofs.Printing.{wrote-then, wrote-within}
 use borrow.Author.Needs.{needs}
 use native.Mathlib.Omega.{arith}
 use Rattle.script.proofs.print.put_reply.Statement.{statement}

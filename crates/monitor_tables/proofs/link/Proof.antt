@@ -1,0 +1,45 @@
+-- Written by tools/prove from the file answers beside it: edit that, and not this.
+-- The place is below 512, and the entry is the table's.
+use mathlib.Core.Path.{_∙_, ap}
+use Prim.Native.Nat.{ℕ, _+_, _*_}
+use Rattle.model.specs.Base.{upd2}
+use Rattle.model.specs.Entry.{table-entry}
+use Rattle.ledger.specs.Layout.{word-of}
+use borrow.Author.Needs.{needs}
+use native.Mathlib.Omega.{arith}
+use Rattle.monitor_tables.proofs.link.Statement.{statement}
+use Rattle.monitor_tables.proofs.link.Tie as tie
+
+first-requires : tie.Need-first-requires
+first-requires c κs = c .before .before .pre .1 .1 .0
+
+add-store-entry : tie.Need-add-store-entry
+add-store-entry c = omega (arith, c .before .first .ensures, c .before .before .before .before .pre .1 .1 .1 .1)
+
+mul-store-entry : tie.Need-mul-store-entry
+mul-store-entry c = omega (arith, c .before .first .ensures, c .before .before .before .before .pre .1 .1 .1 .1)
+
+add-store-entry-2 : tie.Need-add-store-entry-2
+add-store-entry-2 c = omega (arith, c .before .first .ensures, c .before .before .before .before .pre .1 .1 .1 .1)
+
+store-entry-requires : tie.Need-store-entry-requires
+store-entry-requires c κs = (omega (arith, c .before .before .before .before .pre .0 .place), c .before .before .before .before .pre .1 .1 .1 .0 .0, c .before .before .before .before .pre .1 .1 .1 .0 .1)
+
+same-length : tie.Need-same-length
+same-length c = search needs
+
+returns : tie.Need-returns
+unfolding table-entry
+returns c = c .before .before .store-entry .ensures ∙ ap (λ (y : ℕ). upd2 (word-of (c .before .before .before .before .before .before .before .args .ram .now)) (c .before .before .before .before .before .before .before .args .t) (c .before .before .before .before .before .before .before .args .i) ((y + c .before .before .before .before .before .before .before .args .u) * 4096 + 3)) (c .before .before .before .before .first .ensures)
+
+pub link-spec : {M : Type 1} → statement M
+link-spec =
+    tie.close
+    (tie.spec
+    first-requires
+    add-store-entry
+    mul-store-entry
+    add-store-entry-2
+    store-entry-requires
+    same-length
+    returns)

@@ -1,0 +1,62 @@
+// What map writes into a guest's tables: a new table, and an entry that leads to a page.
+ghost use mathlib.Core.Path.{_≡_};
+ghost use Prim.Native.Nat.{_+_, _<_, _^_};
+ghost use Rattle.model.specs.Base.{upd, upd2};
+ghost use Rattle.model.specs.Changes.{zeros};
+ghost use Rattle.model.specs.Entry.{table-entry, page-entry};
+ghost use Rattle.ledger.specs.Layout.{first-of, word-of};
+ghost use Rattle.ledger.specs.Stock.{Stock};
+ghost use Rattle.ledger.specs.Words.{Within};
+ghost use Rattle.monitor_tables.specs.NewTable.{Placed, Blank, Growing, Made};
+use ledger::header;
+use ledger::words;
+
+// Entry i of table t leads to table u from now on. Document 03, section 3: "Tables are filled with zeros before they are linked in".
+fn link(ram: &mut [u8], ledger: &[u32], t: u64, i: u64, u: u64)
+    requires { ⌜ Placed (now ledger) t i u ⌝ }
+    requires { ⌜ Blank (now ram) u ⌝ }
+    requires { ⌜ Stock (now ledger) ⌝ }
+    requires { ⌜ (t < 2 ^ 36) × Within (now ram) t ⌝ }
+    requires { ⌜ first-of (now ledger) + u < 2 ^ 36 ⌝ }
+    ensures { λ _. ⌜ word-of (now (ram .exit)) ≡ upd2 (word-of (now (ram .entry))) t i (table-entry (first-of (now (ledger .entry))) u) ⌝ }
+{
+    let first = header::first(ledger);
+    words::store_entry(ram, t, i, (first + u) * 4096 + 3);
+}
+
+// Table u, which the ledger has already, is filled with zeros and then linked in.
+fn clear_and_link(ram: &mut [u8], ledger: &[u32], t: u64, i: u64, u: u64)
+    requires { ⌜ Placed (now ledger) t i u ⌝ }
+    requires { ⌜ Stock (now ledger) ⌝ }
+    requires { ⌜ (t < 2 ^ 36) × Within (now ram) t ⌝ }
+    requires { ⌜ (u < 2 ^ 36) × Within (now ram) u ⌝ }
+    requires { ⌜ first-of (now ledger) + u < 2 ^ 36 ⌝ }
+    ensures { λ _. ⌜ word-of (now (ram .exit)) ≡ upd2 (upd (word-of (now (ram .entry))) u zeros) t i (table-entry (first-of (now (ledger .entry))) u) ⌝ }
+{
+    words::clear_frame(ram, u);
+    link(ram, ledger, t, i, u);
+}
+
+// The table below t, of height h, on the way to v.
+pub fn make_table(ram: &mut [u8], ledger: &mut [u32], g: u64, v: u64, h: u64, t: u64) -> u64
+    requires { ⌜ Growing (now ram) (now ledger) g v h t ⌝ }
+    requires { ⌜ 0 < h ⌝ }
+    ensures { λ u. ⌜ Made (now (ram .entry)) (now (ledger .entry)) g v h t u (now (ram .exit)) (now (ledger .exit)) ⌝ }
+{
+    let p = monitor_descent::upper(h, v);
+    let u = ledger_free::next(ledger);
+    ledger_free::become_table(ledger, u, g, h - 1, p);
+    clear_and_link(ram, ledger, t, p % 512, u);
+    u
+}
+
+pub fn entry_of_page(first: u64, f: u64, r: u64) -> u64
+    requires { ⌜ first + f < 2 ^ 36 ⌝ }
+    ensures { λ x. ⌜ x ≡ page-entry first f r ⌝ }
+{
+    (first + f) * 4096
+        + 0x73f
+        + 64 * (r % 2)
+        + 128 * (r / 2 % 2)
+        + 0x40000000000000 * (1 - r / 4 % 2)
+}

@@ -1,0 +1,101 @@
+// The words after the first: numbers, a kind of access, a level.
+ghost use mathlib.Core.Path.{_≡_};
+ghost use Prim.Native.Nat.{ℕ, _<_};
+ghost use lib.ListN.{length, getD};
+ghost use Rattle.script_language.specs.Verbs.{wordsOf, formsOf};
+ghost use Rattle.script_language.specs.Commands.{named, argumentOf, valuesFor, readFrom};
+use crate::Read;
+use crate::Reason;
+use crate::verbs::Verb;
+use crate::verbs::made;
+use crate::verbs::numbers_of;
+use crate::verbs::others_of;
+use crate::verbs::place;
+use script_text::numbers::Numeral;
+use script_text::numbers::number;
+use script_text::words::word_end;
+use script_text::words::word_start;
+
+// What an argument is: a number, a kind of access, a level.
+pub enum Form {
+    Plain,
+    Access,
+    Level,
+}
+
+// The form of argument i, of which the first ones are numbers.
+fn form_of(numbers: usize, i: usize) -> Form
+    ensures { λ r. ⌜ ((k : ℕ) → i < length (formsOf numbers k) → r ≡ getD (formsOf numbers k) i Form.Plain) ⌝ }
+{
+    if i < numbers {
+        return Form::Plain;
+    }
+    if i == numbers {
+        return Form::Access;
+    }
+    Form::Level
+}
+
+// An argument that was read, or why it can't be.
+pub enum Argument {
+    Given(u64),
+    Wrong(Reason),
+}
+
+// A word that is one of the first n of `names`: its place there.
+fn name_argument(w: &[u8], names: &[u8], n: usize, why: Reason) -> Argument
+    ensures { λ r. ⌜ r ≡ named (now (w .entry)) (wordsOf n (now (names .entry))) why ⌝ }
+{
+    let k = place(w, names, n);
+    if k < n {
+        return Argument::Given(k as u64);
+    }
+    Argument::Wrong(why)
+}
+
+fn number_argument(s: &[u8]) -> Argument
+    ensures { λ r. ⌜ r ≡ argumentOf Form.Plain (now (s .entry)) ⌝ }
+{
+    match number(s) {
+        Numeral::Value(v) => Argument::Given(v),
+        Numeral::TooLarge => Argument::Wrong(Reason::NumberTooLarge),
+        Numeral::NoNumber => Argument::Wrong(Reason::NumberExpected),
+    }
+}
+
+fn read_argument(f: Form, s: &[u8]) -> Argument
+    ensures { λ r. ⌜ r ≡ argumentOf f (now (s .entry)) ⌝ }
+{
+    match f {
+        Form::Plain => number_argument(s),
+        Form::Access => name_argument(s, b"r w x", 3, Reason::AccessExpected),
+        Form::Level => name_argument(s, b"el0 el1", 2, Reason::LevelExpected),
+    }
+}
+
+// The words after the first, read as v wants them.
+pub fn arguments(v: Verb, s: &[u8]) -> Read
+    ensures { λ r. ⌜ r ≡ readFrom v (valuesFor v (now (s .entry))) ⌝ }
+{
+    let numbers = numbers_of(v);
+    let n = numbers + others_of(v);
+    let mut a = [0u64; 5];
+    let mut at = 0;
+    let mut i = 0;
+    while i < n {
+        let from = word_start(s, at);
+        if from == s.len() {
+            return Read::Unread(Reason::TooFewWords);
+        }
+        at = word_end(s, from);
+        match read_argument(form_of(numbers, i), &s[from..at]) {
+            Argument::Given(x) => a[i] = x,
+            Argument::Wrong(r) => return Read::Unread(r),
+        }
+        i += 1;
+    }
+    if word_start(s, at) == s.len() {
+        return Read::Asked(made(v, a));
+    }
+    Read::Unread(Reason::TooManyWords)
+}

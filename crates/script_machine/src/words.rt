@@ -1,0 +1,103 @@
+// `word` and `peek`: eight bytes at a physical address. After a word in a table the monitor can count on RAM and ledger no longer.
+ghost use mathlib.Core.Path.{_≡_};
+ghost use mathlib.Core.Bool.{true, not, _&&_, _||_};
+ghost use Prim.Native.Nat.{_+_, _*_, _/_, _^_, _<_, _≤_};
+ghost use Rattle.model.specs.State.{tabled};
+ghost use Rattle.ledger.specs.Layout.{size-of, kind-of};
+ghost use Rattle.ledger.specs.Stock.{Stock};
+ghost use Rattle.script_language.specs.declared.Command.the-variants.{StoreWord};
+ghost use Rattle.script_machine.specs.Machine.{Within, Kept, inRam, inTable, peeked, Executed};
+use super::Machine;
+use super::Outcome;
+use super::Reply;
+use ledger::frame;
+
+// Are the eight bytes at physical address a all in RAM?
+fn in_ram(m: Machine, a: u64) -> bool
+    requires { ⌜ 4096 * m .frames < 2 ^ 64 ⌝ }
+    ensures { λ r. ⌜ r ≡ inRam m a ⌝ }
+{
+    let size = 4096 * m.frames;
+    if a < m.base {
+        return false;
+    }
+    if size < 8 {
+        return false;
+    }
+    if size - 8 < a - m.base {
+        return false;
+    }
+    true
+}
+
+fn holds_table(ledger: &[u32], f: u64) -> bool
+    requires { ⌜ Stock (now ledger) ⌝ }
+    requires { ⌜ f < size-of (now ledger) ⌝ }
+    ensures { λ r. ⌜ r ≡ tabled (kind-of (now (ledger .entry)) f) ⌝ }
+{
+    let k = frame::kind(ledger, f);
+    if k == 2 {
+        return true;
+    }
+    k == 3
+}
+
+// A word may lie in two frames.
+fn in_table(ledger: &[u32], at: u64) -> bool
+    requires { ⌜ Stock (now ledger) ⌝ }
+    requires { ⌜ (at + 8 ≤ size-of (now ledger) * 4096) × (at + 8 < 2 ^ 64) ⌝ }
+    ensures { λ r. ⌜ r ≡ (tabled (kind-of (now (ledger .entry)) (at / 4096)) || tabled (kind-of (now (ledger .entry)) ((at + 7) / 4096))) ⌝ }
+{
+    if holds_table(ledger, at / 4096) {
+        return true;
+    }
+    holds_table(ledger, (at + 7) / 4096)
+}
+
+// Is the machine ready when a word has been written at physical address a?
+fn stays_ready(m: Machine, ram: &[u8], ledger: &[u32], a: u64) -> bool
+    requires { ⌜ Kept m (now ram) (now ledger) ⌝ }
+    requires { ⌜ inRam m a ≡ true ⌝ }
+    ensures { λ r. ⌜ r ≡ (m .ready && not (inTable m (now (ledger .entry)) a)) ⌝ }
+{
+    if m.ready {
+        let w = (144 + 16 * m.frames) as usize;
+        if in_table(&ledger[..w], a - m.base) {
+            return false;
+        }
+        return true;
+    }
+    false
+}
+
+pub fn store_word(m: Machine, ram: &mut [u8], ledger: &[u32], a: u64, v: u64) -> Outcome
+    requires { ⌜ Kept m (now ram) (now ledger) ⌝ }
+    ensures { λ r. ⌜ Executed (StoreWord a v) m (now (ram .entry)) (now (ledger .entry)) (now (ram .exit)) (now (ledger .entry)) r ⌝ }
+{
+    if in_ram(m, a) {
+        let ready = stays_ready(m, ram, ledger, a);
+        memory::store_word(ram, (a - m.base) as usize, v);
+        return Outcome {
+            machine: Machine {
+                frames: m.frames,
+                base: m.base,
+                ready,
+            },
+            reply: Reply::Done,
+        };
+    }
+    Outcome {
+        machine: m,
+        reply: Reply::OutsideRam,
+    }
+}
+
+pub fn peek_word(m: Machine, ram: &[u8], a: u64) -> Reply
+    requires { ⌜ Within m (now ram) ⌝ }
+    ensures { λ r. ⌜ r ≡ peeked m (now (ram .entry)) a ⌝ }
+{
+    if in_ram(m, a) {
+        return Reply::Contents(memory::word(ram, (a - m.base) as usize));
+    }
+    Reply::OutsideRam
+}

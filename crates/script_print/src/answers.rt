@@ -1,0 +1,118 @@
+// A walk's answer as text.
+ghost use Prim.Native.Nat.{_+_, _≤_};
+ghost use lib.ListN.{length, take};
+ghost use Rattle.script_text.specs.Wrote.{Wrote};
+ghost use Rattle.script_print.specs.Answer.{Says, kindText, faultText, fetchedText, duringText, answerText};
+use script_text::digits::put;
+use script_text::digits::put_field;
+use script_text::digits::put_hex;
+use walk::Answer;
+use walk::Kind;
+
+// A text of at most 20 bytes: the first ones.
+pub struct Text {
+    pub bytes: [u8; 20],
+    pub length: usize,
+}
+
+const WALK_ABORT: [u8; 20] = *b"WALK_ABORT          ";
+
+const TRANSLATION: [u8; 20] = *b"TRANSLATION         ";
+
+const NOT_MODELLED: [u8; 20] = *b"NOT_MODELLED        ";
+
+const ACCESS_FLAG: [u8; 20] = *b"ACCESS_FLAG         ";
+
+const PERMISSION: [u8; 20] = *b"PERMISSION          ";
+
+fn kind_text(k: Kind) -> Text
+    ensures { λ r. ⌜ Says r (kindText k) ⌝ }
+{
+    match k {
+        Kind::WalkAbort => Text {
+            bytes: WALK_ABORT,
+            length: 10,
+        },
+        Kind::Translation => Text {
+            bytes: TRANSLATION,
+            length: 11,
+        },
+        Kind::NotModelled => Text {
+            bytes: NOT_MODELLED,
+            length: 12,
+        },
+        Kind::AccessFlag => Text {
+            bytes: ACCESS_FLAG,
+            length: 11,
+        },
+        Kind::Permission => Text {
+            bytes: PERMISSION,
+            length: 10,
+        },
+    }
+}
+
+pub fn put_text(out: &mut [u8], at: usize, t: Text) -> usize
+    requires { ⌜ (at + 20 ≤ length (now out)) × (t .length ≤ 20) × (t .length ≤ length (t .bytes)) ⌝ }
+    ensures { λ r. ⌜ Wrote 20 (now (out .entry)) at (now (out .exit)) r (take (t .length) (t .bytes)) ⌝ }
+{
+    let bytes = t.bytes;
+    let n = t.length;
+    put(out, at, &bytes[..n])
+}
+
+fn put_fault(out: &mut [u8], at: usize, k: Kind, stage: u64, level: u64) -> usize
+    requires { ⌜ at + 74 ≤ length (now out) ⌝ }
+    ensures { λ r. ⌜ Wrote 74 (now (out .entry)) at (now (out .exit)) r (faultText k stage level) ⌝ }
+{
+    let a = put_text(out, at, kind_text(k));
+    let b = put_field(out, a, b" stage ", stage);
+    put_field(out, b, b" level ", level)
+}
+
+fn put_fetched(out: &mut [u8], at: usize, fetched: u64) -> usize
+    requires { ⌜ at + 29 ≤ length (now out) ⌝ }
+    ensures { λ r. ⌜ Wrote 29 (now (out .entry)) at (now (out .exit)) r (fetchedText fetched) ⌝ }
+{
+    put_field(out, at, b" fetched ", fetched)
+}
+
+// A fault of stage 2 while stage 1 was at level `of`.
+fn put_during(out: &mut [u8], at: usize, k: Kind, level: u64, of: u64) -> usize
+    requires { ⌜ at + 116 ≤ length (now out) ⌝ }
+    ensures { λ r. ⌜ Wrote 116 (now (out .entry)) at (now (out .exit)) r (duringText k level of) ⌝ }
+{
+    let next = put_fault(out, at, k, 2, level);
+    put_field(out, next, b" during stage 1 level ", of)
+}
+
+pub fn put_answer(out: &mut [u8], at: usize, a: Answer) -> usize
+    requires { ⌜ at + 145 ≤ length (now out) ⌝ }
+    ensures { λ r. ⌜ Wrote 145 (now (out .entry)) at (now (out .exit)) r (answerText a) ⌝ }
+{
+    match a {
+        Answer::Found { address, fetched } => {
+            let next = put_hex(out, at, address);
+            put_fetched(out, next, fetched)
+        }
+        Answer::Fault {
+            kind,
+            stage,
+            level,
+            fetched,
+        } => {
+            let next = put_fault(out, at, kind, stage, level);
+            put_fetched(out, next, fetched)
+        }
+        Answer::During {
+            kind,
+            level,
+            of,
+            fetched,
+        } => {
+            let next = put_during(out, at, kind, level, of);
+            put_fetched(out, next, fetched)
+        }
+        Answer::Refused => put(out, at, b"REFUSED"),
+    }
+}

@@ -1,0 +1,37 @@
+// What a guest is, as text.
+ghost use Prim.Native.Nat.{_+_, _≤_};
+ghost use lib.ListN.{length};
+ghost use Rattle.script_text.specs.Wrote.{Wrote};
+ghost use Rattle.script_print.specs.Guest.{dirtyText, guestText};
+use monitor_query::GuestKind;
+use script_text::digits::put;
+use script_text::digits::put_hex;
+
+fn put_dirty(out: &mut [u8], at: usize, dirty: bool) -> usize
+    requires { ⌜ at + 6 ≤ length (now out) ⌝ }
+    ensures { λ r. ⌜ Wrote 6 (now (out .entry)) at (now (out .exit)) r (dirtyText dirty) ⌝ }
+{
+    if dirty {
+        return put(out, at, b" dirty");
+    }
+    at
+}
+
+// What `guest` prints.
+pub fn put_guest(out: &mut [u8], at: usize, g: GuestKind) -> usize
+    requires { ⌜ at + 35 ≤ length (now out) ⌝ }
+    ensures { λ r. ⌜ Wrote 35 (now (out .entry)) at (now (out .exit)) r (guestText g) ⌝ }
+{
+    match g {
+        GuestKind::Nobody => put(out, at, b"1"),
+        GuestKind::Absent { dirty } => {
+            let next = put(out, at, b"none");
+            put_dirty(out, next, dirty)
+        }
+        GuestKind::Present { root, dirty } => {
+            let next = put(out, at, b"exists ");
+            let after = put_hex(out, next, root);
+            put_dirty(out, after, dirty)
+        }
+    }
+}

@@ -1,0 +1,73 @@
+-- Written by tools/prove from the file answers beside it: edit that, and not this.
+-- By the definition's cases.
+use Rattle.script_text.specs.Number.{moreOf, addDigit}
+use borrow.Author.Needs.{needs}
+use mathlib.Core.Path.{sym}
+use borrow.Author.Tests.{lt-ltb, lt-leb, le-leb, le-ltb}
+use Rattle.script_text.proofs.numbers.more.Statement.{statement}
+use Rattle.script_text.proofs.numbers.more.Tie as tie
+
+digit-requires : tie.Need-digit-requires
+digit-requires c κs = search needs
+
+returns : tie.Need-returns
+unfolding moreOf
+returns c = simp (
+  sym (c .before .digit .ensures),
+  le-leb _ _ (c .if1 .taken),
+  le-ltb _ _ (c .if1 .taken),
+)
+
+enum-known-n : tie.Need-enum-known-n
+enum-known-n c = search needs
+
+with-digit-requires : tie.Need-with-digit-requires
+with-digit-requires c κs = search needs
+
+enum-told : tie.Need-enum-told
+enum-told c = search needs
+
+enum-told-2 : tie.Need-enum-told-2
+enum-told-2 c = search needs
+
+returns-2 : tie.Need-returns-2
+unfolding moreOf addDigit
+returns-2 c = simp (
+  sym (c .before .before .before .before .before .digit .ensures),
+  lt-ltb _ _ (c .before .before .before .before .if1 .left),
+  lt-leb _ _ (c .before .before .before .before .if1 .left),
+  c .before .before .n .given .1,
+  sym (c .with-digit .ensures),
+)
+
+returns-3 : tie.Need-returns-3
+unfolding moreOf addDigit
+returns-3 c = simp (
+  sym (c .before .before .before .digit .ensures),
+  lt-ltb _ _ (c .before .before .if1 .left),
+  lt-leb _ _ (c .before .before .if1 .left),
+  c .enum-told .given .1,
+)
+
+returns-4 : tie.Need-returns-4
+unfolding moreOf addDigit
+returns-4 c = simp (
+  sym (c .before .before .before .digit .ensures),
+  lt-ltb _ _ (c .before .before .if1 .left),
+  lt-leb _ _ (c .before .before .if1 .left),
+  c .enum-told2 .given .1,
+)
+
+pub more-spec : {M : Type 1} → statement M
+more-spec =
+    tie.close
+    (tie.spec
+    digit-requires
+    returns
+    enum-known-n
+    with-digit-requires
+    enum-told
+    enum-told-2
+    returns-2
+    returns-3
+    returns-4)

@@ -1,0 +1,91 @@
+-- Written by tools/prove from the file answers beside it: edit that, and not this.
+-- By the definition's cases.
+use mathlib.Core.Path.{ap, _∙_, sym}
+use Rattle.script_text.specs.Number.{readIn, hexed, numberOf}
+use Rattle.script_text.proofs.Scanning.{rest}
+use borrow.Author.Needs.{needs}
+use borrow.Author.Tests.{lt-ltb, lt-leb, le-leb, le-ltb, eq-eqb, ne-eqb}
+use Rattle.script_text.proofs.numbers.number.Statement.{statement}
+use Rattle.script_text.proofs.numbers.number.Tie as tie
+
+read-requires : tie.Need-read-requires
+read-requires c κs = search needs
+
+returns : tie.Need-returns
+unfolding numberOf hexed
+returns c = simp (
+  lt-ltb _ _ (c .before .if1 .taken),
+  lt-leb _ _ (c .before .if1 .taken),
+  sym (c .read .ensures),
+)
+
+shared-slice-read-if2 : tie.Need-shared-slice-read-if2
+shared-slice-read-if2 c = search needs
+
+read-requires-2 : tie.Need-read-requires-2
+read-requires-2 c κs = search needs
+
+returns-2 : tie.Need-returns-2
+unfolding numberOf hexed
+returns-2 c = simp (
+  le-leb _ _ (c .before .before .before .if1 .left),
+  le-ltb _ _ (c .before .before .before .if1 .left),
+  ne-eqb _ _ (c .before .if2 .taken),
+  sym (c .read2 .ensures),
+)
+
+shared-slice-read-if3 : tie.Need-shared-slice-read-if3
+shared-slice-read-if3 c = search needs
+
+read-requires-3 : tie.Need-read-requires-3
+read-requires-3 c κs = search needs
+
+returns-3 : tie.Need-returns-3
+unfolding numberOf hexed
+returns-3 c = simp (
+  le-leb _ _ (c .before .before .before .before .before .if1 .left),
+  le-ltb _ _ (c .before .before .before .before .before .if1 .left),
+  eq-eqb _ _ (c .before .before .before .if2 .left),
+  ne-eqb _ _ (c .before .if3 .taken),
+  sym (c .read3 .ensures),
+)
+
+sub-read : tie.Need-sub-read
+sub-read c = search needs
+
+part-read-start : tie.Need-part-read-start
+part-read-start c = search needs
+
+part-read-end : tie.Need-part-read-end
+part-read-end c = search needs
+
+read-requires-4 : tie.Need-read-requires-4
+read-requires-4 c κs = search needs
+
+returns-4 : tie.Need-returns-4
+unfolding numberOf hexed
+returns-4 c = let e = c .read4 .ensures ∙ ap (readIn 16) (rest 2 (c .before .before .before .before .before .before .before .before .args .s .now)) in
+    simp (
+      le-leb _ _ (c .before .before .before .before .before .before .if1 .left),
+      le-ltb _ _ (c .before .before .before .before .before .before .if1 .left),
+      eq-eqb _ _ (c .before .before .before .before .if2 .left),
+      eq-eqb _ _ (c .before .before .if3 .left),
+    ) e
+
+pub number-spec : {M : Type 1} → statement M
+number-spec =
+    tie.close
+    (tie.spec
+    read-requires
+    returns
+    shared-slice-read-if2
+    read-requires-2
+    returns-2
+    shared-slice-read-if3
+    read-requires-3
+    returns-3
+    sub-read
+    part-read-start
+    part-read-end
+    read-requires-4
+    returns-4)

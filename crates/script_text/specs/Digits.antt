@@ -1,0 +1,34 @@
+-- A number as text: decimal, hexadecimal with no leading zeros, and hexadecimal with sixteen digits.
+use Prim.Native.Nat.{ℕ, zero, suc, _+_, _/_, _%_}
+use mathlib.Core.Bool.{cond}
+use mathlib.Core.List.{List, [], _∷_, _++_}
+use lib.Dec.{ltb, eqb}
+use Rattle.script_text.specs.Text.{ascii}
+
+-- the character of a digit below 16: 0 to 9, then a to f
+unfoldable pub glyphOf : ℕ → ℕ
+glyphOf d = cond (ltb d 10) (48 + d) (87 + d)
+
+-- the last k digits of n in base b, the highest first
+unfoldable pub digits : ℕ → ℕ → ℕ → List ℕ
+digits b zero n = []
+digits b (suc k) n = digits b k (n / b) ++ (glyphOf (n % b) ∷ [])
+
+-- without the zeros in front, but with the last digit
+unfoldable pub stripped : List ℕ → List ℕ
+stripped [] = []
+stripped (d ∷ []) = d ∷ []
+stripped (d ∷ e ∷ l) = cond (eqb d 48) (stripped (e ∷ l)) (d ∷ e ∷ l)
+
+-- n in base b with no zeros in front: in base 10 and above, 20 digits hold every number below 2^64
+unfoldable pub numeralOf : ℕ → ℕ → List ℕ
+numeralOf b n = stripped (digits b 20 n)
+
+unfoldable pub decimalOf : ℕ → List ℕ
+decimalOf n = numeralOf 10 n
+
+unfoldable pub hexOf : ℕ → List ℕ
+hexOf n = ascii "0x" ++ numeralOf 16 n
+
+unfoldable pub sixteenOf : ℕ → List ℕ
+sixteenOf n = ascii "0x" ++ digits 16 16 n

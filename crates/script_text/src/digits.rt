@@ -1,0 +1,104 @@
+// Texts and numbers, put one after the other into a slice that the caller lends.
+ghost use mathlib.Core.Path.{_≡_};
+ghost use Prim.Native.Nat.{_+_, _≤_, _<_};
+ghost use mathlib.Core.List.{_++_};
+ghost use lib.ListN.{length, drop};
+ghost use Rattle.script_text.specs.Digits.{glyphOf, digits as digits·of, stripped, numeralOf, decimalOf, hexOf, sixteenOf};
+ghost use Rattle.script_text.specs.Wrote.{Wrote};
+
+// Puts text at `at`, and answers the place after it.
+pub fn put(out: &mut [u8], at: usize, text: &[u8]) -> usize
+    requires { ⌜ at + length (now text) ≤ length (now out) ⌝ }
+    ensures { λ r. ⌜ Wrote (length (now (text .entry))) (now (out .entry)) at (now (out .exit)) r (now (text .entry)) ⌝ }
+{
+    let mut i = 0;
+    while i < text.len() {
+        out[at + i] = text[i];
+        i += 1;
+    }
+    at + i
+}
+
+fn glyph(d: u64) -> u8
+    requires { ⌜ d < 16 ⌝ }
+    ensures { λ r. ⌜ r ≡ glyphOf d ⌝ }
+{
+    if d < 10 {
+        return 48 + d as u8;
+    }
+    87 + d as u8
+}
+
+// Fills the slice with as many digits of n, the last ones.
+fn spell(out: &mut [u8], n: u64, base: u64)
+    requires { ⌜ (0 < base) × (base ≤ 16) ⌝ }
+    ensures { λ r. ⌜ now (out .exit) ≡ digits·of base (length (now (out .entry))) n ⌝ }
+{
+    let mut i = out.len();
+    let mut rest = n;
+    while 0 < i {
+        i -= 1;
+        out[i] = glyph(rest % base);
+        rest /= base;
+    }
+}
+
+// How many zeros stand in front, but for the last digit.
+fn zeros(digits: &[u8]) -> usize
+    ensures { λ r. ⌜ (r ≤ length (now (digits .entry))) × (drop r (now (digits .entry)) ≡ stripped (now (digits .entry))) ⌝ }
+{
+    let mut i = 0;
+    while i + 1 < digits.len() {
+        if digits[i] != b'0' {
+            return i;
+        }
+        i += 1;
+    }
+    i
+}
+
+// n with no zeros in front.
+fn put_number(out: &mut [u8], at: usize, n: u64, base: u64) -> usize
+    requires { ⌜ (at + 20 ≤ length (now out)) × (10 ≤ base) × (base ≤ 16) ⌝ }
+    ensures { λ r. ⌜ Wrote 20 (now (out .entry)) at (now (out .exit)) r (numeralOf base n) ⌝ }
+{
+    let mut digits = [0u8; 20];
+    spell(&mut digits, n, base);
+    let from = zeros(&digits);
+    put(out, at, &digits[from..])
+}
+
+pub fn put_decimal(out: &mut [u8], at: usize, n: u64) -> usize
+    requires { ⌜ at + 20 ≤ length (now out) ⌝ }
+    ensures { λ r. ⌜ Wrote 20 (now (out .entry)) at (now (out .exit)) r (decimalOf n) ⌝ }
+{
+    put_number(out, at, n, 10)
+}
+
+pub fn put_hex(out: &mut [u8], at: usize, n: u64) -> usize
+    requires { ⌜ at + 22 ≤ length (now out) ⌝ }
+    ensures { λ r. ⌜ Wrote 22 (now (out .entry)) at (now (out .exit)) r (hexOf n) ⌝ }
+{
+    let next = put(out, at, b"0x");
+    put_number(out, next, n, 16)
+}
+
+// Sixteen digits.
+pub fn put_word(out: &mut [u8], at: usize, n: u64) -> usize
+    requires { ⌜ at + 18 ≤ length (now out) ⌝ }
+    ensures { λ r. ⌜ Wrote 18 (now (out .entry)) at (now (out .exit)) r (sixteenOf n) ⌝ }
+{
+    let mut digits = [0u8; 16];
+    spell(&mut digits, n, 16);
+    let next = put(out, at, b"0x");
+    put(out, next, &digits)
+}
+
+// A label and a number.
+pub fn put_field(out: &mut [u8], at: usize, label: &[u8], n: u64) -> usize
+    requires { ⌜ at + length (now label) + 20 ≤ length (now out) ⌝ }
+    ensures { λ r. ⌜ Wrote (length (now (label .entry)) + 20) (now (out .entry)) at (now (out .exit)) r (now (label .entry) ++ decimalOf n) ⌝ }
+{
+    let next = put(out, at, label);
+    put_decimal(out, next, n)
+}
