@@ -9,16 +9,19 @@ use Rattle.memory.specs.Word.{wordAt}
 use Rattle.model.specs.State.{State, Kind, byte}
 use Rattle.model.specs.Operations.{Out, refuse, done}
 use Rattle.model.specs.Bytes.{Image}
-use Rattle.model.specs.Theorems.Contents as C
-use Rattle.model.specs.Theorems.Ram.{ram-byte}
-use Rattle.model.specs.Invariant.Numbers.{placed}
+use Rattle.model_theorems.specs.Contents as C
+use Rattle.model_theorems.specs.Ram.{ram-byte}
+use Rattle.model.proofs.Invariant.Numbers.{placed}
 use Rattle.ledger.specs.Layout.{size-of, first-of, kind-of, state-in, state-of, pick-of}
-use Rattle.ledger.specs.Words.{word-is}
-use Rattle.ledger.specs.Sound.{Sound, chosen}
+use Rattle.ledger.proofs.Laws.Words.{word-is}
+use Rattle.ledger.specs.Sound.{Sound}
+use Rattle.ledger.proofs.Laws.Sound.{chosen}
 use Rattle.monitor.specs.Answers.{Outcome}
-use Rattle.isolation.specs.Calls.{Call, defined, in-model, defined-is, chooses}
-use Rattle.isolation.specs.Slices.{Slices, Called, called, Run, stop, then, joined, Begun}
-use Rattle.isolation.specs.Runs.{are-runs, begun-is, always-sound}
+use Rattle.isolation_runs.specs.Calls.{Call, defined, in-model}
+use Rattle.isolation_runs.proofs.Laws.Calls.{defined-is, chooses}
+use Rattle.isolation_runs.specs.Slices.{Slices, Called, called, Run, stop, then, Begun}
+use Rattle.isolation_runs.proofs.Laws.Slices.{joined}
+use Rattle.isolation_runs.proofs.Laws.Runs.{are-runs, begun-is, always-sound}
 
 -- byte o of frame f in the model is the byte of RAM there
 pub byte-is : (x : Slices) → Sound (x .ram) (x .ledger) → (f o : ℕ) → f < size-of (x .ledger) → o < 4096 → byte (state-of (x .ram) (x .ledger)) f o ≡ getD (x .ram) (f * 4096 + o) 0

@@ -11,22 +11,22 @@ use Rattle.model.specs.Operations.{done, create}
 use Rattle.model.specs.Cache.{Access}
 use Rattle.model.specs.Machine.{Machine, SetUp, Run, Step, Operation, Create, answer, Chooses, call, Reaches}
 use Rattle.model_moments.specs.Moments.{stores-of, Safe, Throughout, FineRun}
-use Rattle.model.specs.Theorems.Terms.{lends, Allowed, Handed, Laid}
-use Rattle.model.specs.Theorems.Reach as R
-use Rattle.model.specs.Theorems.TwoGuests as T
-use Rattle.model.specs.Theorems.Writing as W
-use Rattle.model.specs.Theorems.Private as P
-use Rattle.model.specs.Theorems.ChangesHands as H
-use Rattle.model.specs.Theorems.BecomesTable as B
-use Rattle.model.specs.Theorems.TakingOut as O
-use Rattle.model.specs.Theorems.NewGuest as N
-use Rattle.model.specs.Theorems.Contents as C
-use Rattle.model_moments.specs.Theorems.Moments as M
-use Rattle.model_moments.specs.Theorems.Finely as F
-use Rattle.model_noninterference.specs.Theorems.TwoRunsTerms.{Two-runs, Same-start}
-use Rattle.model_noninterference.specs.Theorems.TwoRuns as S
-use Rattle.model_noninterference.specs.Theorems.ApartTerms.{Frames, Runs-apart, no-frames, Reads}
-use Rattle.model_noninterference.specs.Theorems.TwoRunsApart as A
+use Rattle.model.specs.Terms.{lends, Allowed, Handed, Laid}
+use Rattle.model_theorems.specs.Reach as R
+use Rattle.model_theorems.specs.TwoGuests as T
+use Rattle.model_theorems.specs.Writing as W
+use Rattle.model_theorems.specs.Private as P
+use Rattle.model_theorems.specs.ChangesHands as H
+use Rattle.model_theorems.specs.BecomesTable as B
+use Rattle.model_theorems.specs.TakingOut as O
+use Rattle.model_theorems.specs.NewGuest as N
+use Rattle.model_theorems.specs.Contents as C
+use Rattle.model_theorems.specs.Moments as M
+use Rattle.model_theorems.specs.Finely as F
+use Rattle.model_noninterference.specs.TwoRunsTerms.{Two-runs, Same-start}
+use Rattle.model_theorems.specs.TwoRuns as S
+use Rattle.model_noninterference.specs.ApartTerms.{Frames, Runs-apart, no-frames, Reads}
+use Rattle.model_theorems.specs.TwoRunsApart as A
 
 module _ {m z : Machine} (set-up : SetUp m) (run : Run m z) where
   -- What g reaches is its own page, or a page shared with it for that access, or a frame that drains for it; so never the ledger, which is outside RAM.

@@ -4,9 +4,6 @@ pub mod Layout
 pub mod FreeSet
 pub mod Fields
 pub mod Stock
-pub mod Laws
 pub mod Kinds
 pub mod Words
-pub mod Stores
 pub mod Sound
-pub mod Beside

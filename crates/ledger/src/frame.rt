@@ -4,7 +4,7 @@ ghost use mathlib.Core.Bool.{true};
 ghost use Prim.Native.Nat.{_<_, _≤_, _^_, _/_, _%_};
 ghost use Rattle.model.specs.State.{is-free, is-page, is-page-of, is-guest, total};
 ghost use Rattle.ledger.specs.Layout.{frames, size-of, kind-of, shared-of, count-of};
-ghost use Rattle.model.specs.Invariant.Kinds.{sort};
+ghost use Rattle.model.specs.State.{sort};
 ghost use Rattle.ledger.specs.Kinds.{guest-in, kind-for};
 ghost use Rattle.ledger.specs.Fields.{with-cell, with-share, with-no-shares, with-count};
 ghost use Rattle.ledger.specs.Stock.{Stock, Changed};

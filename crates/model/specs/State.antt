@@ -74,6 +74,15 @@ put-byte (suc k) w x = put-byte k (w / 256) x * 256 + w % 256
 unfoldable pub byte : State → ℕ → ℕ → ℕ
 byte s f o = byte-of (o % 8) (s .word f (o / 8))
 
+-- the number of what a frame is, as the ledger stores it
+abbrev pub sort : Kind → ℕ
+sort monitor = 0
+sort free = 1
+sort (table g h p) = 2
+sort (draining-table g h p) = 3
+sort (page g) = 4
+sort (draining-page g) = 5
+
 -- tests of what a frame is
 abbrev pub is-free : Kind → Bool
 is-free monitor = false

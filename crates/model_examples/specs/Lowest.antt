@@ -6,11 +6,12 @@ use Prim.Native.Nat.{ℕ, zero, suc, _+_, _<_}
 use native.Mathlib.Omega.{arith}
 use lib.Dec.{eqb}
 use borrow.Author.Tests.{eq-eqb, ne-eqb}
-use Rattle.model.specs.Base.{eq?, bool?, sum}
+use Rattle.model.proofs.Laws.Base.{eq?, bool?}
+use Rattle.model.specs.Base.{sum}
 use Rattle.model.specs.State.{State, Kind, free, is-free, free-frames}
 use Rattle.model.specs.Changes.{Choice}
-use Rattle.model.specs.Invariant.Kinds.{free-is}
-use Rattle.model.specs.Invariant.Choice.{one-if-free}
+use Rattle.model.proofs.Invariant.Kinds.{free-is}
+use Rattle.model.proofs.Invariant.Choice.{one-if-free}
 
 unfoldable pub frees : ℕ → (ℕ → Kind) → ℕ
 frees n kind = sum n (λ f. one-if-free (kind f))

@@ -10,8 +10,8 @@ use Rattle.model.specs.Translate.{translate}
 use Rattle.model.specs.Operations.{Out, refuse, done, check, set-up}
 use Rattle.model.specs.Cache.{Caches, nothing-kept, grown, Access, reading, writing, grants, Reach, kept}
 use Rattle.model.specs.Machine.{Machine, answer, keeps, settle, call, calls, Run, stop, then, SetUp, Reaches}
-use Rattle.model.specs.Invariant.Holds.{holds}
-use Rattle.model.specs.Invariant.Reaching.{reported, call-keeps, found, reaches-mapped}
+use Rattle.model.proofs.Invariant.Holds.{holds}
+use Rattle.model.proofs.Invariant.Reaching.{reported, call-keeps, found, reaches-mapped}
 use Rattle.model_examples.specs.Runs.{Ask, creates, operation, chosen, after, state-after, begin, sharing, draining, reuse, after-11, after-19, after-32, shared-then, drains-then, handed-on, first-page}
 
 unfoldable pub machine-after : Machine → List Ask → Machine

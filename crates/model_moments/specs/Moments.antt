@@ -13,7 +13,7 @@ use Rattle.model.specs.Changes.{with-table, grow}
 use Rattle.model.specs.Operations.{Out, refuse, done}
 use Rattle.model.specs.Cache.{Caches, grown, Access, writing, Reach}
 use Rattle.model.specs.Machine.{Machine, Operation, Create, Give, Take, Map, Unmap, Share, Unshare, Destroy, Invalidated, answer, Chooses, keeps, write, Reaches}
-use Rattle.model.specs.Theorems.Terms.{Allowed}
+use Rattle.model.specs.Terms.{Allowed}
 
 -- word `index` of frame `frame` becomes `value`
 pub record Store : Type 0 where

@@ -2,4 +2,4 @@
 pub mod Answers
 pub mod Quiet
 pub mod Found
-pub mod Upto
+pub mod EachFrame

@@ -6,7 +6,7 @@ ghost use Rattle.ledger.specs.Layout.{size-of, state-of};
 ghost use Rattle.ledger.specs.Stock.{Stock, Changed};
 ghost use Rattle.ledger.specs.Sound.{Sound};
 ghost use Rattle.monitor_contract.specs.Answers.{Answers, Done};
-ghost use Rattle.monitor_contract.specs.Upto.{upto, same};
+ghost use Rattle.monitor_contract.specs.EachFrame.{turned-below, same};
 ghost use Rattle.monitor_invalidated.specs.Invalidated.{invalidating};
 use ledger::guest;
 use ledger::header;
@@ -26,7 +26,7 @@ fn check_invalidated(ram: &[u8], ledger: &[u32], g: u64) -> u64
 
 fn release_all(ledger: &mut [u32], g: u64)
     requires { ⌜ Stock (now ledger) ⌝ }
-    ensures { λ _. ⌜ Changed (upto (released g) same (size-of (now (ledger .entry)))) (now (ledger .entry)) (now (ledger .exit)) ⌝ }
+    ensures { λ _. ⌜ Changed (turned-below (released g) same (size-of (now (ledger .entry)))) (now (ledger .entry)) (now (ledger .exit)) ⌝ }
 {
     let n = header::size(ledger);
     let mut f: u64 = 0;

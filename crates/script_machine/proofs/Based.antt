@@ -10,10 +10,11 @@ use Rattle.walk.specs.declared.Answer.the-variants.{Refused}
 use Rattle.model.specs.State.{State}
 use Rattle.model.specs.Operations.{Out, refuse, done, refusal, check, set-up, started}
 use Rattle.model.specs.Machine as M
-use Rattle.model.specs.Invariant.Answer.{Then, then-done}
-use Rattle.model.specs.Invariant.Orderly.{Orderly, orderly}
+use Rattle.model.proofs.Invariant.Answer.{Then, then-done}
+use Rattle.model.proofs.Invariant.Orderly.{Orderly, orderly}
 use Rattle.ledger.specs.Layout.{first-of, size-of, root-of, exists-of, word-of, pick-of, state-in, state-of}
-use Rattle.ledger.specs.Sound.{Sound, chosen}
+use Rattle.ledger.specs.Sound.{Sound}
+use Rattle.ledger.proofs.Laws.Sound.{chosen}
 use Rattle.monitor.specs.Answers as A
 use Rattle.monitor.specs.SetUp as S
 use Rattle.monitor_query.specs.Questions.{translated}

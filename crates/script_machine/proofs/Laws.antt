@@ -9,19 +9,17 @@ use lib.ListN.{length, take, drop}
 use lib.Seq.{length-take-le, length-front, take-at, drop-at, take-set-lt}
 use borrow.Author.Tests.{leb-true, ltb-true, eqb-true, ne-eqb}
 use Rattle.memory.specs.Word.{storedAt, clearedAt}
-use Rattle.memory.specs.Laws.{length-kept, cleared-length}
+use Rattle.memory.proofs.Laws.Words.{length-kept, cleared-length}
 use Rattle.model.specs.State.{Kind, monitor, free, table, draining-table, page, draining-page, tabled}
-use Rattle.model.specs.Invariant.Kinds.{sort}
+use Rattle.model.specs.State.{sort}
 use Rattle.ledger.specs.Layout.{words-for, first-of, kind-of}
 use Rattle.ledger.specs.Sound.{Sound}
-use Rattle.ledger.specs.Beside.{word-beside}
+use Rattle.ledger.proofs.Laws.Beside.{word-beside}
 use Rattle.monitor.specs.Answers as A
 use Rattle.monitor.specs.SetUp as S
 use Rattle.script_language.specs.declared.Operation.{Operation}
-use Rattle.script_language.specs.declared.Command.{Command}
 use Rattle.script_language.specs.declared.Command.the-variants.{SetUp, StoreWord, Operate}
 use Rattle.script_machine.specs.declared.Machine.{Machine}
-use Rattle.script_machine.specs.declared.Outcome.{Outcome}
 use Rattle.script_machine.specs.declared.Reply.{Reply}
 use Rattle.script_machine.specs.declared.Reply.the-variants.{Done, Code}
 use Rattle.script_machine.specs.Operations.{operation}

@@ -7,7 +7,7 @@ use Prim.Native.Nat.{ℕ, _-_, _*_, _/_, _≤_}
 use native.Mathlib.Omega.{arith}
 use lib.ListN.{length}
 use lib.Seq.{length-take-le, take-all}
-use Rattle.model.specs.Base.{lt?}
+use Rattle.model.proofs.Laws.Base.{lt?}
 use Rattle.memory.specs.Word.{wordAt}
 use Rattle.walk.specs.declared.Answer.{Answer}
 use Rattle.ledger.specs.Layout.{words-for, size-of, exists-of}

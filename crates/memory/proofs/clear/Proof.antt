@@ -4,7 +4,7 @@ use Prim.Native.Nat.{_≤_, _-_, _+_}
 use mathlib.Core.Path.{_≡_, refl, ap, _∙_, sym}
 use lib.ListN.{length, length-set}
 use Rattle.memory.specs.Word.{clearedAt}
-use Rattle.memory.specs.Laws.{cleared-none, cleared-more}
+use Rattle.memory.proofs.Laws.Words.{cleared-none, cleared-more}
 use borrow.Author.Needs.{needs}
 use native.Mathlib.Omega.{arith}
 use Rattle.memory.proofs.clear.Statement.{statement}

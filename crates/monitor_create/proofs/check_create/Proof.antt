@@ -6,9 +6,9 @@ use mathlib.Core.Logic.{inl, inr}
 use Rattle.model.specs.State.{free-frames}
 use Rattle.model.specs.Operations.{create}
 use Rattle.ledger.specs.Layout.{exists-of, dirty-of, state-in, state-of}
-use Rattle.ledger.specs.Laws.{guest-is}
-use Rattle.ledger.specs.Sound.{free-is}
-use Rattle.monitor_contract.specs.Answers.{stops, goes-on, and-left, and-right, and-both, no-guest}
+use Rattle.ledger.proofs.Laws.Fields.{guest-is}
+use Rattle.ledger.proofs.Laws.Sound.{free-is}
+use Rattle.monitor_contract.proofs.Laws.Answers.{stops, goes-on, and-left, and-right, and-both, no-guest}
 use native.Mathlib.Omega.{arith}
 use borrow.Author.Tests.{lt-leb, le-leb}
 use Rattle.monitor_create.proofs.check_create.Statement.{statement}

@@ -1,7 +1,7 @@
 -- Written by tools/prove from the file answers beside it: edit that, and not this.
 -- The next free frame is cleared, taken, and the root.
-use Rattle.ledger.specs.Sound.{within}
-use Rattle.monitor_create.specs.Create.{create-free, create-guest, create-end}
+use Rattle.ledger.proofs.Laws.Sound.{within}
+use Rattle.monitor_create.proofs.Laws.Create.{create-free, create-guest, create-end}
 use borrow.Author.Needs.{needs}
 use native.Mathlib.Omega.{arith}
 use Rattle.monitor_create.proofs.do_create.Statement.{statement}

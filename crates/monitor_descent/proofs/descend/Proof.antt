@@ -3,9 +3,10 @@
 use mathlib.Core.Path.{_∙_, ap}
 use Prim.Native.Nat.{ℕ, _%_}
 use Rattle.ledger.specs.Layout.{word-of, state-of}
-use Rattle.ledger.specs.Laws.{guest-low}
-use Rattle.ledger.specs.Sound.{guest-there}
-use Rattle.monitor_descent.specs.Way.{Reached, way-root, way-words, way-down, way-short, ended-last}
+use Rattle.ledger.proofs.Laws.Fields.{guest-low}
+use Rattle.ledger.proofs.Laws.Sound.{guest-there}
+use Rattle.monitor_descent.specs.Way.{Reached}
+use Rattle.monitor_descent.proofs.Laws.Way.{way-root, way-words, way-down, way-short, ended-last}
 use borrow.Author.Needs.{needs}
 use native.Mathlib.Omega.{arith}
 use Rattle.monitor_descent.proofs.descend.Statement.{statement}

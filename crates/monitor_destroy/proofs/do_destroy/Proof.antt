@@ -1,6 +1,6 @@
 -- Written by tools/prove from the file answers beside it: edit that, and not this.
 -- Every frame of the guest drains; then the guest is no more, and dirty.
-use Rattle.monitor_destroy.specs.Destroy.{destroy-guest, destroy-low, destroy-end}
+use Rattle.monitor_destroy.proofs.Laws.Destroy.{destroy-guest, destroy-low, destroy-end}
 use borrow.Author.Needs.{needs}
 use native.Mathlib.Omega.{arith}
 use Rattle.monitor_destroy.proofs.do_destroy.Statement.{statement}

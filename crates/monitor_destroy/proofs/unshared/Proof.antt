@@ -3,10 +3,10 @@
 use mathlib.Core.Path.{_∙_, ap, sym}
 use Prim.Native.Nat.{ℕ}
 use lib.Dec.{eqb}
-use Rattle.model.specs.Base.{not-true}
+use Rattle.model.proofs.Laws.Base.{not-true}
 use borrow.Author.Tests.{not-false, eq-eqb, ne-eqb}
 use Rattle.ledger.specs.Layout.{shared-of}
-use Rattle.monitor_destroy.specs.Destroy.{no-page, with-it, of-another, of-it}
+use Rattle.monitor_destroy.proofs.Laws.Destroy.{no-page, with-it, of-another, of-it}
 use Rattle.monitor_destroy.proofs.unshared.Statement.{statement}
 use Rattle.monitor_destroy.proofs.unshared.Tie as tie
 

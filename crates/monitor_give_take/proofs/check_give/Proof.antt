@@ -1,11 +1,11 @@
 -- Written by tools/prove from the file answers beside it: edit that, and not this.
 -- Check by check, in the order of the definition.
 use mathlib.Core.Path.{_∙_, refl, sym}
-use Rattle.model.specs.Base.{not-true}
+use Rattle.model.proofs.Laws.Base.{not-true}
 use Rattle.model.specs.Operations.{give}
 use Rattle.ledger.specs.Layout.{size-of, state-in}
 use borrow.Author.Tests.{not-false, lt-ltb, le-ltb}
-use Rattle.monitor_contract.specs.Answers.{stops, goes-on}
+use Rattle.monitor_contract.proofs.Laws.Answers.{stops, goes-on}
 use native.Mathlib.Omega.{arith}
 use Rattle.monitor_give_take.proofs.check_give.Statement.{statement}
 use Rattle.monitor_give_take.proofs.check_give.Tie as tie

@@ -2,12 +2,12 @@
 -- Check by check, in the order of the definition.
 use mathlib.Core.Path.{_∙_, refl, sym}
 use lib.Dec.{eqb}
-use Rattle.model.specs.Base.{not-true}
+use Rattle.model.proofs.Laws.Base.{not-true}
 use Rattle.model.specs.State.{total}
 use Rattle.model.specs.Operations.{take}
 use Rattle.ledger.specs.Layout.{size-of, count-of, shared-of, state-in}
 use borrow.Author.Tests.{not-false, lt-ltb, le-ltb, eq-eqb, ne-eqb}
-use Rattle.monitor_contract.specs.Answers.{stops, goes-on, and-left, and-right, and-both}
+use Rattle.monitor_contract.proofs.Laws.Answers.{stops, goes-on, and-left, and-right, and-both}
 use native.Mathlib.Omega.{arith}
 use Rattle.monitor_give_take.proofs.check_take.Statement.{statement}
 use Rattle.monitor_give_take.proofs.check_take.Tie as tie

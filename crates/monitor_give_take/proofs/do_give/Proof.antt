@@ -1,8 +1,8 @@
 -- Written by tools/prove from the file answers beside it: edit that, and not this.
 -- The page is cleared, taken, and shared with nobody.
-use Rattle.ledger.specs.Sound.{within}
-use Rattle.monitor_contract.specs.Answers.{taken-low}
-use Rattle.monitor_give_take.specs.Give.{give-low, give-free, give-guest, give-end}
+use Rattle.ledger.proofs.Laws.Sound.{within}
+use Rattle.monitor_contract.proofs.Laws.Answers.{taken-low}
+use Rattle.monitor_give_take.proofs.Laws.Give.{give-low, give-free, give-guest, give-end}
 use borrow.Author.Needs.{needs}
 use native.Mathlib.Omega.{arith}
 use Rattle.monitor_give_take.proofs.do_give.Statement.{statement}

@@ -1,8 +1,8 @@
 -- Written by tools/prove from the file answers beside it: edit that, and not this.
 -- The page drains where its owner is dirty, and is free otherwise.
 use mathlib.Core.Path.{_∙_, sym}
-use Rattle.ledger.specs.Laws.{guest-low}
-use Rattle.monitor_give_take.specs.Take.{take-owned, take-not-free, take-drains, take-frees}
+use Rattle.ledger.proofs.Laws.Fields.{guest-low}
+use Rattle.monitor_give_take.proofs.Laws.Take.{take-owned, take-not-free, take-drains, take-frees}
 use borrow.Author.Needs.{needs}
 use Rattle.monitor_give_take.proofs.do_take.Statement.{statement}
 use Rattle.monitor_give_take.proofs.do_take.Tie as tie

@@ -1,6 +1,6 @@
 -- Written by tools/prove from the file answers beside it: edit that, and not this.
 -- Every frame is released; then the guest is not dirty.
-use Rattle.monitor_invalidated.specs.Invalidated.{invalidated-guest, invalidated-end}
+use Rattle.monitor_invalidated.proofs.Laws.Invalidated.{invalidated-guest, invalidated-end}
 use borrow.Author.Needs.{needs}
 use native.Mathlib.Omega.{arith}
 use Rattle.monitor_invalidated.proofs.do_invalidated.Statement.{statement}

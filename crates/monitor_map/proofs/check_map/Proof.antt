@@ -2,13 +2,13 @@
 -- Check by check, in the order of the definition.
 use mathlib.Core.Path.{_∙_, ap, refl, sym}
 use mathlib.Core.Bool.{not}
-use Rattle.model.specs.Base.{not-true}
+use Rattle.model.proofs.Laws.Base.{not-true}
 use Rattle.model.specs.Operations.{may-map}
 use Rattle.ledger.specs.Layout.{size-of, state-in}
-use Rattle.ledger.specs.Laws.{guest-low}
-use Rattle.ledger.specs.Sound.{guest-there}
+use Rattle.ledger.proofs.Laws.Fields.{guest-low}
+use Rattle.ledger.proofs.Laws.Sound.{guest-there}
 use borrow.Author.Tests.{not-false, lt-ltb, le-ltb}
-use Rattle.monitor_contract.specs.Answers.{stops, goes-on}
+use Rattle.monitor_contract.proofs.Laws.Answers.{stops, goes-on}
 use borrow.Author.Needs.{needs}
 use native.Mathlib.Omega.{arith}
 use Rattle.monitor_map.proofs.check_map.Statement.{statement}

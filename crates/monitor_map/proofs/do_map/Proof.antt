@@ -1,8 +1,9 @@
 -- Written by tools/prove from the file answers beside it: edit that, and not this.
 -- The missing tables are made, from the highest on; then the entry is written and the place counted.
 use Prim.Native.Nat.{_/_}
-use Rattle.monitor_tables.specs.NewTable.{grow-guest, grow-words, grow-room}
-use Rattle.monitor_map.specs.Map.{Filling, fill-start, fill-more, fill-low, fill-count, map-end}
+use Rattle.monitor_tables.proofs.Laws.NewTable.{grow-guest, grow-words, grow-room}
+use Rattle.monitor_map.specs.Map.{Filling}
+use Rattle.monitor_map.proofs.Laws.Map.{fill-start, fill-more, fill-low, fill-count, map-end}
 use borrow.Author.Needs.{needs}
 use native.Mathlib.Omega.{arith}
 use Rattle.monitor_map.proofs.do_map.Statement.{statement}

@@ -3,8 +3,9 @@
 use mathlib.Core.Path.{subst}
 use Rattle.ledger.specs.Layout.{pick-of, state-of}
 use Rattle.monitor_descent.specs.declared.Plan.{Plan}
-use Rattle.monitor_contract.specs.Answers.{answered, plan-refused}
-use Rattle.monitor_map.specs.Map.{MapPlan, map-nonzero, map-effect, map-found}
+use Rattle.monitor_contract.proofs.Laws.Answers.{answered, plan-refused}
+use Rattle.monitor_map.specs.Map.{MapPlan}
+use Rattle.monitor_map.proofs.Laws.Map.{map-nonzero, map-effect, map-found}
 use borrow.Author.Needs.{needs}
 use Rattle.monitor_map.proofs.map.Statement.{statement}
 use Rattle.monitor_map.proofs.map.Tie as tie

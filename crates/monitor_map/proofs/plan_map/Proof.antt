@@ -1,6 +1,6 @@
 -- Written by tools/prove from the file answers beside it: edit that, and not this.
 -- Check by check, in the order of the definition.
-use Rattle.monitor_map.specs.Map.{plan-asked, plan-guest, plan-page, plan-10, plan-3, plan-go}
+use Rattle.monitor_map.proofs.Laws.Map.{plan-asked, plan-guest, plan-page, plan-10, plan-3, plan-go}
 use Rattle.monitor_map.proofs.plan_map.Statement.{statement}
 use Rattle.monitor_map.proofs.plan_map.Tie as tie
 

@@ -1,8 +1,8 @@
 -- Written by tools/prove from the file answers beside it: edit that, and not this.
 -- The root lies in RAM, which lies below 2^48.
-use Rattle.ledger.specs.Laws.{guest-low}
-use Rattle.ledger.specs.Sound.{guest-there}
-use Rattle.monitor_query.specs.Questions.{root-room}
+use Rattle.ledger.proofs.Laws.Fields.{guest-low}
+use Rattle.ledger.proofs.Laws.Sound.{guest-there}
+use Rattle.monitor_query.proofs.Laws.Questions.{root-room}
 use native.Mathlib.Omega.{arith}
 use Rattle.monitor_query.proofs.root_address.Statement.{statement}
 use Rattle.monitor_query.proofs.root_address.Tie as tie

@@ -3,8 +3,8 @@
 use mathlib.Core.Path.{_∙_}
 use mathlib.Core.Logic.{inl, inr}
 use Rattle.ledger.specs.Layout.{size-of, state-in}
-use Rattle.ledger.specs.Laws.{guest-is}
-use Rattle.monitor_contract.specs.Answers.{no-guest}
+use Rattle.ledger.proofs.Laws.Fields.{guest-is}
+use Rattle.monitor_contract.proofs.Laws.Answers.{no-guest}
 use Rattle.monitor_query.specs.Questions.{share-told}
 use native.Mathlib.Omega.{arith}
 use borrow.Author.Tests.{lt-ltb, le-ltb}

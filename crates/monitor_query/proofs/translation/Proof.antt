@@ -1,7 +1,8 @@
 -- Written by tools/prove from the file answers beside it: edit that, and not this.
 -- The walk of stage 2 from the root, where there is one.
 use mathlib.Core.Path.{_∙_, sym}
-use Rattle.monitor_query.specs.Questions.{translated, first-room}
+use Rattle.monitor_query.specs.Questions.{translated}
+use Rattle.monitor_query.proofs.Laws.Questions.{first-room}
 use borrow.Author.Needs.{needs}
 use native.Mathlib.Omega.{arith}
 use Rattle.monitor_query.proofs.translation.Statement.{statement}

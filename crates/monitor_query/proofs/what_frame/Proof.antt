@@ -3,7 +3,8 @@
 use mathlib.Core.Path.{_∙_}
 use Rattle.ledger.specs.Layout.{size-of, state-in}
 use Rattle.monitor_query.specs.declared.FrameKind.the-variants.{Monitor, Free, Table, Draining, Page}
-use Rattle.monitor_query.specs.Questions.{frame-told, by-number, frame-here}
+use Rattle.monitor_query.specs.Questions.{frame-told, by-number}
+use Rattle.monitor_query.proofs.Laws.Questions.{frame-here}
 use native.Mathlib.Omega.{arith}
 use borrow.Author.Tests.{lt-ltb, lt-leb, le-ltb, eq-eqb, ne-eqb}
 use Rattle.monitor_query.proofs.what_frame.Statement.{statement}

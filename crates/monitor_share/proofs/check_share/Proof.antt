@@ -3,13 +3,13 @@
 use mathlib.Core.Path.{_∙_, ap, refl, sym}
 use mathlib.Core.Bool.{not, _&&_}
 use lib.Dec.{eqb, leb}
-use Rattle.model.specs.Base.{not-true}
+use Rattle.model.proofs.Laws.Base.{not-true}
 use Rattle.model.specs.Operations.{share}
 use Rattle.ledger.specs.Layout.{size-of, exists-of, shared-of, count-of, dirty-of, state-in, state-of}
-use Rattle.ledger.specs.Sound.{guest-there}
+use Rattle.ledger.proofs.Laws.Sound.{guest-there}
 use borrow.Author.Tests.{not-false, lt-ltb, lt-leb, le-leb, le-ltb, eq-eqb, ne-eqb}
-use Rattle.monitor_contract.specs.Answers.{stops, goes-on, and-left, and-right, and-both}
-use Rattle.monitor_share.specs.Share.{narrow-out, wide-out}
+use Rattle.monitor_contract.proofs.Laws.Answers.{stops, goes-on, and-left, and-right, and-both}
+use Rattle.monitor_share.proofs.Laws.Share.{narrow-out, wide-out}
 use native.Mathlib.Omega.{arith}
 use Rattle.monitor_share.proofs.check_share.Statement.{statement}
 use Rattle.monitor_share.proofs.check_share.Tie as tie

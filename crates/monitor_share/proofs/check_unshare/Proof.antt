@@ -3,14 +3,14 @@
 use mathlib.Core.Path.{_∙_, sym}
 use mathlib.Core.Bool.{_&&_}
 use lib.Dec.{ltb}
-use Rattle.model.specs.Base.{not-true}
+use Rattle.model.proofs.Laws.Base.{not-true}
 use Rattle.model.specs.State.{is-page-of}
 use Rattle.model.specs.Operations.{unshare}
 use Rattle.ledger.specs.Layout.{size-of, exists-of, kind-of, shared-of, count-of, dirty-of, state-in}
-use Rattle.ledger.specs.Sound.{guest-there}
+use Rattle.ledger.proofs.Laws.Sound.{guest-there}
 use borrow.Author.Tests.{not-false, lt-ltb, le-ltb}
-use Rattle.monitor_contract.specs.Answers.{stops, goes-on, and-left, and-right, and-both}
-use Rattle.monitor_share.specs.Share.{held-out}
+use Rattle.monitor_contract.proofs.Laws.Answers.{stops, goes-on, and-left, and-right, and-both}
+use Rattle.monitor_share.proofs.Laws.Share.{held-out}
 use native.Mathlib.Omega.{arith}
 use Rattle.monitor_share.proofs.check_unshare.Statement.{statement}
 use Rattle.monitor_share.proofs.check_unshare.Tie as tie

@@ -1,8 +1,8 @@
 -- Written by tools/prove from the file answers beside it: edit that, and not this.
 -- Check, then do.
 use mathlib.Core.Path.{_∙_, sym}
-use Rattle.monitor_contract.specs.Answers.{refused, answered}
-use Rattle.monitor_share.specs.Share.{extent-low, share-owned, share-end}
+use Rattle.monitor_contract.proofs.Laws.Answers.{refused, answered}
+use Rattle.monitor_share.proofs.Laws.Share.{extent-low, share-owned, share-end}
 use borrow.Author.Needs.{needs}
 use Rattle.monitor_share.proofs.share.Statement.{statement}
 use Rattle.monitor_share.proofs.share.Tie as tie

@@ -1,8 +1,8 @@
 -- Written by tools/prove from the file answers beside it: edit that, and not this.
 -- A free frame becomes a table, is cleared, and is linked in.
-use Rattle.ledger.specs.Laws.{guest-low}
-use Rattle.ledger.specs.Sound.{within}
-use Rattle.monitor_tables.specs.NewTable.{grow-guest, grow-words, grow-range, make-placed, make-room, make-end}
+use Rattle.ledger.proofs.Laws.Fields.{guest-low}
+use Rattle.ledger.proofs.Laws.Sound.{within}
+use Rattle.monitor_tables.proofs.Laws.NewTable.{grow-guest, grow-words, grow-range, make-placed, make-room, make-end}
 use borrow.Author.Needs.{needs}
 use native.Mathlib.Omega.{arith}
 use Rattle.monitor_tables.proofs.make_table.Statement.{statement}

@@ -1,7 +1,7 @@
 -- Written by tools/prove from the file answers beside it: edit that, and not this.
 -- The entry is emptied, the count falls, and the guest is dirty.
-use Rattle.ledger.specs.Laws.{guest-low}
-use Rattle.monitor_unmap.specs.Unmap.{unmap-guest, unmap-words, unmap-low, unmap-count, unmap-end}
+use Rattle.ledger.proofs.Laws.Fields.{guest-low}
+use Rattle.monitor_unmap.proofs.Laws.Unmap.{unmap-guest, unmap-words, unmap-low, unmap-count, unmap-end}
 use borrow.Author.Needs.{needs}
 use native.Mathlib.Omega.{arith}
 use Rattle.monitor_unmap.proofs.do_unmap.Statement.{statement}

@@ -1,12 +1,12 @@
 -- Written by tools/prove from the file answers beside it: edit that, and not this.
 -- Check by check, in the order of the definition.
 use mathlib.Core.Path.{_∙_, sym}
-use Rattle.model.specs.Base.{not-true}
-use Rattle.model.specs.Invariant.MapUnmap.{address-low}
+use Rattle.model.proofs.Laws.Base.{not-true}
+use Rattle.model.proofs.Invariant.MapUnmap.{address-low}
 use Rattle.ledger.specs.Layout.{state-in, state-of}
 use borrow.Author.Tests.{not-false}
-use Rattle.monitor_descent.specs.Way.{way-words}
-use Rattle.monitor_unmap.specs.Unmap.{unmap-5, unmap-7, plan-above, plan-empty, plan-slot}
+use Rattle.monitor_descent.proofs.Laws.Way.{way-words}
+use Rattle.monitor_unmap.proofs.Laws.Unmap.{unmap-5, unmap-7, plan-above, plan-empty, plan-slot}
 use borrow.Author.Needs.{needs}
 use native.Mathlib.Omega.{arith}
 use Rattle.monitor_unmap.proofs.plan_unmap.Statement.{statement}

@@ -3,8 +3,9 @@
 use mathlib.Core.Path.{subst}
 use Rattle.ledger.specs.Layout.{state-of}
 use Rattle.monitor_descent.specs.declared.Plan.{Plan}
-use Rattle.monitor_contract.specs.Answers.{answered, plan-refused}
-use Rattle.monitor_unmap.specs.Unmap.{UnmapPlan, unmap-nonzero, unmap-effect, unmap-found}
+use Rattle.monitor_contract.proofs.Laws.Answers.{answered, plan-refused}
+use Rattle.monitor_unmap.specs.Unmap.{UnmapPlan}
+use Rattle.monitor_unmap.proofs.Laws.Unmap.{unmap-nonzero, unmap-effect, unmap-found}
 use borrow.Author.Needs.{needs}
 use Rattle.monitor_unmap.proofs.unmap.Statement.{statement}
 use Rattle.monitor_unmap.proofs.unmap.Tie as tie

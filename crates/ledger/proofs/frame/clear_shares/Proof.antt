@@ -4,9 +4,9 @@ use mathlib.Core.Path.{_≡_, refl}
 use Prim.Native.Nat.{ℕ, _-_, _+_, _≤_}
 use lib.ListN.{length}
 use Rattle.model.specs.State.{guests}
-use Rattle.ledger.specs.Laws.{guest-is, unshared-to}
+use Rattle.ledger.proofs.Laws.Fields.{guest-is, unshared-to}
 use Rattle.ledger.specs.Stock.{Changed}
-use Rattle.ledger.specs.Stores.{unshared-none, unshared-low, unshared-more, unshared-all}
+use Rattle.ledger.proofs.Laws.Stores.{unshared-none, unshared-low, unshared-more, unshared-all}
 use borrow.Author.Needs.{needs}
 use native.Mathlib.Omega.{arith}
 use Rattle.ledger.proofs.frame.clear_shares.Statement.{statement}

@@ -4,7 +4,7 @@ use mathlib.Core.Path.{_≡_, refl, ap, _∙_, sym}
 use Prim.Native.Nat.{ℕ, _-_, _+_, _≤_}
 use lib.ListN.{length, set, length-set}
 use Rattle.memory.specs.Word.{clearedAt}
-use Rattle.memory.specs.Laws.{cleared-none, cleared-more}
+use Rattle.memory.proofs.Laws.Words.{cleared-none, cleared-more}
 use borrow.Author.Needs.{needs}
 use native.Mathlib.Omega.{arith}
 use Rattle.ledger_free.proofs.start.clear.Statement.{statement}
