@@ -5,8 +5,8 @@ use mathlib.Core.List.{List}
 use Prim.Native.Nat.{ℕ, _+_, _*_, _<_}
 use native.Mathlib.Omega.{arith}
 use lib.ListN.{getD}
-use Rattle.memory.specs.Word.{wordAt}
-use Rattle.model.specs.State.{State, Kind, byte}
+use Rattle.memory.specs.Word.{word-at}
+use Rattle.model.specs.State.{State, FrameKind, byte}
 use Rattle.model.specs.Operations.{Out, refuse, done}
 use Rattle.model.specs.Bytes.{Image}
 use Rattle.model_theorems.specs.Contents as C
@@ -32,7 +32,7 @@ byte-is x ok f o low inside = ram-byte image (x .bytes) f o low inside ∙ ap (�
     image = record {
       base = refl;
       long = let a = ok .ram-fits in omega arith;
-      words = λ f i _ k. sym (word-is (x .ram) f i k) ∙ ap (wordAt (x .ram)) (omega arith);
+      words = λ f i _ k. sym (word-is (x .ram) f i k) ∙ ap (word-at (x .ram)) (omega arith);
     }
 
 module _ {x y : Slices} (z : Slices) (begun : Begun x) (run : Run x y) (c : Call) (r : ℕ) (a : Called c r y z) where
@@ -43,7 +43,7 @@ module _ {x y : Slices} (z : Slices) (begun : Begun x) (run : Run x y) (c : Call
       let after : size-of (z .ledger) ≡ begun-is begun .n = placed (begun-is begun) (are-runs begun (joined run (then (called c r a) stop)) .1) .size in
       omega arith
 
-  pub contents : (f : ℕ) (k : Kind) → kind-of (y .ledger) f ≡ k → C.Held k → f < size-of (y .ledger) → (o : ℕ) → o < 4096 → getD (z .ram) (f * 4096 + o) 0 ≡ getD (y .ram) (f * 4096 + o) 0
+  pub contents : (f : ℕ) (k : FrameKind) → kind-of (y .ledger) f ≡ k → C.Held k → f < size-of (y .ledger) → (o : ℕ) → o < 4096 → getD (z .ram) (f * 4096 + o) 0 ≡ getD (y .ram) (f * 4096 + o) 0
   unfolding state-in
   contents f k is held low o inside = go (defined c (state-of (y .ram) (y .ledger)) (pick-of (y .ledger))) refl (a .answers .outcome)
     where
@@ -56,6 +56,6 @@ module _ {x y : Slices} (z : Slices) (begun : Begun x) (run : Run x y) (c : Call
           sym (byte-is z (a .answers .sound) f o (omega arith) inside)
           ∙ ap (λ (t : State). byte t f o) (out .1)
           ∙ C.contents (begun-is begun) (are-runs begun run .1) (in-model c (pick-of (y .ledger)))
-          (chooses c (state-of (y .ram) (y .ledger)) (pick-of (y .ledger)) (chosen (y .ledger) (ok .stock) (y .ram)))
+          (chooses c (state-of (y .ram) (y .ledger)) (pick-of (y .ledger)) (chosen (y .ledger) (ok .ledger-sound) (y .ram)))
           s (sym (defined-is c (state-of (y .ram) (y .ledger)) (pick-of (y .ledger))) ∙ e) f k is held o
           ∙ byte-is y ok f o low inside

@@ -1,10 +1,10 @@
 -- Laws, for proofs.
 pub mod Fields
 pub mod Cells
-pub mod FreeSet
-pub mod Stock
+pub mod Free-set
 pub mod Kinds
 pub mod Words
 pub mod Sound
 pub mod Stores
 pub mod Beside
+pub mod LedgerSound

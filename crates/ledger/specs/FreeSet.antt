@@ -5,7 +5,7 @@ use Prim.Native.Nat.{ℕ, _-_, _≤_, _<_}
 use lib.Dec.{eqb, ltb}
 
 -- K: what a frame is, 1 where it is free
-pub record FreeSet (n : ℕ) (K D P : ℕ → ℕ) (count : ℕ) : Type 0 where
+pub record Free-set (n : ℕ) (K D P : ℕ → ℕ) (count : ℕ) : Type 0 where
   pub few : count ≤ n
   pub d-low : (i : ℕ) → i < n → D i < n
   pub p-low : (f : ℕ) → f < n → P f < n

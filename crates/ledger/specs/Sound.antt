@@ -6,10 +6,10 @@ use Prim.Native.Nat.{ℕ, _*_, _-_}
 use lib.ListN.{length}
 use Rattle.model.specs.Invariant.{Core}
 use Rattle.ledger.specs.Layout.{guest-rows, size-of, state-of}
-use Rattle.ledger.specs.Stock.{Stock}
+use Rattle.ledger.specs.LedgerSound.{Ledger-sound}
 
 pub record Sound (ram ledger : List ℕ) : Type 0 where
-  pub stock : Stock ledger
+  pub ledger-sound : Ledger-sound ledger
   pub ram-fits : length ram ≡ size-of ledger * 4096
   pub core : Core (state-of ram ledger)
 

@@ -8,10 +8,10 @@ use lib.ListN.{length}
 use Rattle.model.specs.Operations.{started}
 use Rattle.ledger.specs.Cells.{store}
 use Rattle.ledger.specs.Layout.{frames, guest-rows, words-for, word-of, pick-of, state-of}
-use Rattle.ledger.specs.Stock.{Stock}
+use Rattle.ledger.specs.LedgerSound.{Ledger-sound}
 
-pub record LaidOut (n b k : ℕ) (l : List ℕ) : Type 0 where
-  pub stock : Stock l
+pub record Laid-out (n b k : ℕ) (l : List ℕ) : Type 0 where
+  pub ledger-sound : Ledger-sound l
   pub state : (ram : List ℕ) → state-of ram l ≡ started n b k (word-of ram)
   pub lowest-first : (i : ℕ) → i < n - k → pick-of l i ≡ k + i
 

@@ -25,7 +25,6 @@ pub mod Bytes
 pub mod Reaching
 pub mod Unreached
 pub mod Linked
-pub mod Hung
 pub mod Reclaim
 pub mod NewGuest
 pub mod Frames
@@ -36,3 +35,4 @@ pub mod RoundTrip
 pub mod Seen
 pub mod Image
 pub mod Wide
+pub mod LinkedAlways

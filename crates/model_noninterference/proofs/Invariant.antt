@@ -1,6 +1,5 @@
 -- What two runs have in common after every pair of steps. A reader of the theorems can skip this folder.
 pub mod Agrees
-pub mod Echo
 pub mod Alike
 pub mod Apart
 pub mod ApartKept
@@ -9,3 +8,4 @@ pub mod ApartFrames
 pub mod ApartAnswers
 pub mod ApartRuns
 pub mod Beside
+pub mod SameAnswers

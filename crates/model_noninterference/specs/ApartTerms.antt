@@ -6,7 +6,7 @@ use mathlib.Core.Logic.{_⊎_}
 use mathlib.Core.Option.{Option, none, some}
 use Prim.Native.Nat.{ℕ, _+_, _<_}
 use lib.Dec.{eqb}
-use Rattle.model.specs.State.{State, byte, pages}
+use Rattle.model.specs.State.{State, byte, page-count}
 use Rattle.model.specs.Translate.{translate}
 use Rattle.model.specs.Cache.{Translation}
 use Rattle.model.specs.Machine.{Machine, Operation, Create, Give, Take, Map, Unmap, Share, Unshare, Destroy, Invalidated, answer, Chooses, call, write}
@@ -86,4 +86,4 @@ Reads m g v r bytes = (f : ℕ) × Translation (m .state) (m .caches) g v (m .st
 
 -- the same by the tables alone, as they are now
 abbrev pub Reads-now : Machine → (g v r : ℕ) (bytes : ℕ → ℕ) → Type 0
-Reads-now m g v r bytes = (f : ℕ) × (v < pages) × (translate (m .state) g v ≡ some (f, r)) × ((i : ℕ) → i < 4096 → byte (m .state) f i ≡ bytes i)
+Reads-now m g v r bytes = (f : ℕ) × (v < page-count) × (translate (m .state) g v ≡ some (f, r)) × ((i : ℕ) → i < 4096 → byte (m .state) f i ≡ bytes i)

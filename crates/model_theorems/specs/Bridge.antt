@@ -7,8 +7,8 @@ use mathlib.Core.Logic.{_⊎_}
 use mathlib.Core.List.{List}
 use mathlib.Core.Option.{some}
 use Prim.Native.Nat.{ℕ, _+_, _*_, _<_, _/_, _%_, _^_}
-use Rattle.walk_descriptor.specs.declared.Kind.{Kind}
-use Rattle.walk_descriptor.specs.declared.Kind.the-variants.{Translation, Permission}
+use Rattle.walk_descriptor.specs.declared.FaultKind.{FaultKind}
+use Rattle.walk_descriptor.specs.declared.FaultKind.the-variants.{Translation, Permission}
 use Rattle.walk.specs.Both.{reached, failed, stage-2, answer-2}
 use Rattle.model.specs.Translate.{translate}
 use Rattle.model.specs.Cache.{Access, grants}
@@ -31,5 +31,5 @@ module _ {y z : Machine} (set : SetUp y) (run : Run y z) (b : ℕ) (m : List ℕ
       (f r : ℕ) × (translate (z .state) g (a / 4096) ≡ some (f, r)) × (grants r w ≡ true) × (p ≡ b + 4096 * f + a % 4096)
   only-mapped = walk-reached (z .state) (holds set run .core) b m image g a w there low
 
-  pub only-these : (kind : Kind) (level : ℕ) → stage-2 m b (b + 4096 * z .state .root g) (access w) a .result ≡ failed kind level → (kind ≡ Translation) ⊎ ((kind ≡ Permission) × (level ≡ 3))
+  pub only-these : (kind : FaultKind) (level : ℕ) → stage-2 m b (b + 4096 * z .state .root g) (access w) a .result ≡ failed kind level → (kind ≡ Translation) ⊎ ((kind ≡ Permission) × (level ≡ 3))
   only-these = walk-failed (z .state) (holds set run .core) b m image g a w there low

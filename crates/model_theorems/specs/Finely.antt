@@ -7,17 +7,17 @@ use Rattle.model.specs.Cache.{Access}
 use Rattle.model.specs.State.{State}
 use Rattle.model.specs.Operations.{done}
 use Rattle.model.specs.Machine.{Machine, SetUp, Operation, answer, Chooses, Reaches}
-use Rattle.model_moments.specs.Moments.{stores-of, Safe, Throughout, FineRun}
+use Rattle.model_moments.specs.Moments.{stores-of, Safe, Throughout, Fine-run}
 use Rattle.model.specs.Terms.{Allowed}
 use Rattle.model.proofs.Invariant.Allowed.{reach-allowed}
 use Rattle.model_moments.proofs.Invariant.Moments.{safe-inside}
 use Rattle.model_moments.proofs.Invariant.Fine.{finely}
 
-pub reach-finely : {m z : Machine} → SetUp m → FineRun m z → (g : ℕ) (w : Access) (a : ℕ) → Reaches z g w a →
+pub reach-finely : {m z : Machine} → SetUp m → Fine-run m z → (g : ℕ) (w : Access) (a : ℕ) → Reaches z g w a →
     (f : ℕ) × (a / 4096 ≡ z .state .first + f) × (f < z .state .size) × Allowed (z .state) g f w
 reach-finely x r g w a y = reach-allowed (finely x r) g w a y
 
 -- and so it is inside the next operation, after each of its stores
-pub moments-finely : {m z : Machine} → SetUp m → FineRun m z → (o : Operation) → Chooses (z .state) o → (s′ : State) → answer (z .state) o ≡ done s′ →
+pub moments-finely : {m z : Machine} → SetUp m → Fine-run m z → (o : Operation) → Chooses (z .state) o → (s′ : State) → answer (z .state) o ≡ done s′ →
     Throughout (z .state) (Safe (z .state)) (z .caches) (z .state .word) (stores-of (z .state) o)
 moments-finely x r = safe-inside (finely x r)

@@ -6,11 +6,11 @@ use Rattle.model.specs.State.{State, free, page}
 use Rattle.model.specs.Machine.{Machine, SetUp, Run}
 use Rattle.model.specs.Terms.{Asked, Reclaims}
 use Rattle.model.proofs.Invariant.Holds.{holds}
-use Rattle.model.proofs.Invariant.Hung.{hung}
+use Rattle.model.proofs.Invariant.LinkedAlways.{linked-always}
 use Rattle.model.proofs.Invariant.Reclaim.{reclaimed, asked-run}
 
 pub reclaim : {m z : Machine} → SetUp m → Run m z → (f g : ℕ) → z .state .kind f ≡ page g → (s′ : State) × Asked (Reclaims f g) (z .state) s′ × (s′ .kind f ≡ free)
-reclaim {z} x r f g k = reclaimed f g (z .state) (holds x r .core) (hung x r) k
+reclaim {z} x r f g k = reclaimed f g (z .state) (holds x r .core) (linked-always x r) k
 
 -- the same as a run of the machine
 pub reclaim-run : {m z : Machine} → SetUp m → Run m z → (f g : ℕ) → z .state .kind f ≡ page g → (z′ : Machine) × Run z z′ × (z′ .state .kind f ≡ free)

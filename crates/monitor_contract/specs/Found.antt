@@ -4,7 +4,7 @@ use mathlib.Core.Option.{Option}
 use mathlib.Core.List.{List}
 use Prim.Native.Nat.{ℕ, _+_, _*_, _<_}
 use Rattle.walk.specs.Both.{stage-2}
-use Rattle.model.specs.State.{pages}
+use Rattle.model.specs.State.{page-count}
 use Rattle.model.specs.Translate.{Page, translate}
 use Rattle.model.specs.Operations.{Out, refuse}
 use Rattle.model.specs.Cache.{Access}
@@ -19,7 +19,7 @@ base-of l = 4096 * first-of l
 
 -- Each page of each guest translates as model's `expected` has it: as before, but for the one that was asked for.
 abbrev pub Translates : M.Operation → (ram ledger ram′ ledger′ : List ℕ) → Type 0
-Translates o m l m′ l′ = (h v : ℕ) → v < pages → translate (state-of m′ l′) h v ≡ expected (state-of m l) o h v
+Translates o m l m′ l′ = (h v : ℕ) → v < page-count → translate (state-of m′ l′) h v ≡ expected (state-of m l) o h v
 
 -- Document 01's walk of stage 2 on RAM's bytes, from g's root, at every byte k of the page at a and for every kind of access:
 -- it comes to that byte of the frame where the rights allow it, and to PERMISSION at level 3 where they do not; where nothing is mapped, to TRANSLATION at level 3.

@@ -7,7 +7,7 @@ ghost use Rattle.model.specs.State.{is-guest};
 ghost use Rattle.model.specs.Changes.{drained};
 ghost use Rattle.model.specs.Operations.{refusal, unshared as unshared·of, destroy as destroy·of};
 ghost use Rattle.ledger.specs.Layout.{size-of, state-of};
-ghost use Rattle.ledger.specs.Stock.{Stock, Changed};
+ghost use Rattle.ledger.specs.LedgerSound.{Ledger-sound, Changed};
 ghost use Rattle.ledger.specs.Sound.{Sound};
 ghost use Rattle.monitor_contract.specs.Answers.{Answers, Done};
 ghost use Rattle.monitor_contract.specs.EachFrame.{turned-below, without};
@@ -65,7 +65,7 @@ fn check_destroy(ram: &[u8], ledger: &[u32], g: u64) -> u64
 }
 
 fn drain_all(ledger: &mut [u32], g: u64)
-    requires { ⌜ Stock (now ledger) ⌝ }
+    requires { ⌜ Ledger-sound (now ledger) ⌝ }
     requires { ⌜ is-guest g ≡ true ⌝ }
     ensures { λ _. ⌜ Changed (turned-below (drained g) (without g) (size-of (now (ledger .entry)))) (now (ledger .entry)) (now (ledger .exit)) ⌝ }
 {

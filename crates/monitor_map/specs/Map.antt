@@ -45,9 +45,9 @@ pub record Ready (s : State) (f g a r t h : ℕ) : Type 0 where
   pub unmapped : mapped s g (a / 4096) ≡ false
   pub enough : h ≤ free-frames s
 
-abbrev pub MapPlan : State → (f g a r : ℕ) (pick : ℕ → ℕ) → Plan → Type 0
-MapPlan s f g a r pick (Stop k) = map s f g a r pick ≡ refuse k
-MapPlan s f g a r pick (Go t h) = Ready s f g a r t h
+abbrev pub Map-plan : State → (f g a r : ℕ) (pick : ℕ → ℕ) → Plan → Type 0
+Map-plan s f g a r pick (Stop k) = map s f g a r pick ≡ refuse k
+Map-plan s f g a r pick (Go t h) = Ready s f g a r t h
 
 -- all tables
 pub record Filling (m₀ l₀ : List ℕ) (f g v : ℕ) (m l : List ℕ) (h t : ℕ) : Type 0 where

@@ -2,7 +2,7 @@
 use mathlib.Core.Path.{_≡_}
 use mathlib.Core.List.{List}
 use Prim.Native.Nat.{ℕ, suc, _-_, _<_, _≤_, _/_, _%_}
-use Rattle.model.specs.State.{table, page, pages}
+use Rattle.model.specs.State.{table, page, page-count}
 use Rattle.model.specs.Translate.{index}
 use Rattle.model.specs.Changes.{grow}
 use Rattle.model.specs.Translate.{At}
@@ -26,7 +26,7 @@ pub record Blank (m : List ℕ) (u : ℕ) : Type 0 where
 pub record Growing (m l : List ℕ) (g v h t : ℕ) : Type 0 where
   pub sound : Sound m l
   pub high : h ≤ 3
-  pub page-low : v < pages
+  pub page-low : v < page-count
   pub serves : At (state-of m l) g h v t
   pub nothing-yet : 0 < h → state-of m l .word t (index h v) ≡ 0
   pub enough : h ≤ free-of l

@@ -26,6 +26,6 @@ pub record Slotted (s : State) (g a t f : ℕ) : Type 0 where
   pub leads : entry-at s t (a / 4096 % 512) ≡ to-page f rights
   pub may : May s g f rights
 
-abbrev pub UnmapPlan : State → (a g : ℕ) → Plan → Type 0
-UnmapPlan s a g (Stop k) = unmap s g a ≡ refuse k
-UnmapPlan s a g (Go t f) = Slotted s g a t f
+abbrev pub Unmap-plan : State → (a g : ℕ) → Plan → Type 0
+Unmap-plan s a g (Stop k) = unmap s g a ≡ refuse k
+Unmap-plan s a g (Go t f) = Slotted s g a t f

@@ -13,7 +13,7 @@ use Rattle.model.specs.Machine as M
 use Rattle.model.specs.Invariant.{Core, Kept}
 use Rattle.model.proofs.Invariant.Holds.{Holds, step-holds}
 use Rattle.ledger.specs.Layout.{size-of, state-in, state-of, pick-of}
-use Rattle.ledger.specs.Stock.{Stock}
+use Rattle.ledger.specs.LedgerSound.{Ledger-sound}
 use Rattle.ledger.specs.Sound.{Sound}
 use Rattle.ledger.proofs.Laws.Sound.{chosen, within}
 use Rattle.monitor.specs.Answers.{Outcome}
@@ -96,7 +96,7 @@ module _ (x y : Slices) where
 
 -- the code takes free frames as the model asks
 pub chosen-so : {x : Slices} → Fit x → (c : Call) → M.Chooses (state-of (x .ram) (x .ledger)) (in-model c (pick-of (x .ledger)))
-chosen-so {x} h c = chooses c (state-of (x .ram) (x .ledger)) (pick-of (x .ledger)) (chosen (x .ledger) (h .sound .stock) (x .ram))
+chosen-so {x} h c = chooses c (state-of (x .ram) (x .ledger)) (pick-of (x .ledger)) (chosen (x .ledger) (h .sound .ledger-sound) (x .ram))
 
 pub step-is-step : {x y : Slices} → Fit x → Step x y → M.Step (machine x) (machine y)
 unfolding state-in
@@ -114,7 +114,7 @@ step-fits {x} {y} h s = record { sound = go s (after .core); kept = after .kept 
     go : Step x y → Core (state-of (y .ram) (y .ledger)) → Sound (y .ram) (y .ledger)
     go (called c r a) core = a .answers .sound
     go (stored g f o b a) core = record {
-      stock = subst (λ (l : List ℕ). Stock l) (sym (a .ledger-after)) (h .sound .stock);
+      ledger-sound = subst (λ (l : List ℕ). Ledger-sound l) (sym (a .ledger-after)) (h .sound .ledger-sound);
       ram-fits = ap (λ (m : List ℕ). length m) (a .ram-after) ∙ length-set (x .ram) (f * 4096 + o) b ∙ h .sound .ram-fits ∙ ap (λ (l : List ℕ). size-of l * 4096) (sym (a .ledger-after));
       core = core;
     }

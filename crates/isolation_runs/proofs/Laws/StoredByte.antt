@@ -7,7 +7,7 @@ use native.Mathlib.Omega.{arith}
 use lib.ListN.{length, getD, set}
 use lib.Seq.{getD-set-same, getD-set-other}
 use borrow.Author.Tests.{lt-ltb, le-ltb}
-use Rattle.memory.specs.Word.{wordAt}
+use Rattle.memory.specs.Word.{word-at}
 use Rattle.memory.proofs.Laws.Bytes.{bytes-from, word-bytes, bytes-agree}
 use Rattle.memory.proofs.Laws.Words.{word-agree}
 use Rattle.model.proofs.Laws.Base.{eq?, lt?}
@@ -46,11 +46,11 @@ module _ (m : List ℕ) (low : (i : ℕ) → getD m i 0 < 256) (x : ℕ) where
       rw (here, rest) (put-next k (getD m at 0) (bytes-from n m (at + 1)) x (low at))
 
   -- the word that the byte is in
-  word-put : (at k : ℕ) → k < 8 → at + k < length m → wordAt (set m (at + k) x) at ≡ put-byte k (wordAt m at) x
+  word-put : (at k : ℕ) → k < 8 → at + k < length m → word-at (set m (at + k) x) at ≡ put-byte k (word-at m at) x
   word-put at k l room = rw (word-bytes (set m (at + k) x) at, word-bytes m at) (bytes-put 7 at k (omega arith) room)
 
   -- any other
-  word-left : (to at : ℕ) → (at ≤ to → to < at + 8 → ⊥) → wordAt (set m to x) at ≡ wordAt m at
+  word-left : (to at : ℕ) → (at ≤ to → to < at + 8 → ⊥) → word-at (set m to x) at ≡ word-at m at
   word-left to at h = word-agree (set m to x) m at (λ i p q. getD-set-other m to i x 0 (λ (e : i ≡ to). h (omega arith) (omega arith)))
 
   module _ (f o : ℕ) (room : Within m f) (inside : o < 4096) where
@@ -64,13 +64,13 @@ module _ (m : List ℕ) (low : (i : ℕ) → getD m i 0 < 256) (x : ℕ) where
         outside : (a b : ℕ) → 512 ≤ b → word-of (set m (f * 4096 + o) x) a b ≡ upd2 (word-of m) f (o / 8) v a b
         outside a b l = rw (upd2-other (word-of m) f (o / 8) v a b (λ p (q : b ≡ o / 8). omega arith), le-ltb b 512 l)
 
-        away : (a b : ℕ) → b < 512 → (a ≡ f → b ≡ o / 8 → ⊥) → wordAt (set m (f * 4096 + o) x) (a * 4096 + b * 8) ≡ wordAt m (a * 4096 + b * 8)
+        away : (a b : ℕ) → b < 512 → (a ≡ f → b ≡ o / 8 → ⊥) → word-at (set m (f * 4096 + o) x) (a * 4096 + b * 8) ≡ word-at m (a * 4096 + b * 8)
         away a b l ne = word-left (f * 4096 + o) (a * 4096 + b * 8) (λ p q. ne (omega arith) (omega arith))
 
-        here : wordAt (set m (f * 4096 + o) x) (f * 4096 + o / 8 * 8) ≡ put-byte (o % 8) (wordAt m (f * 4096 + o / 8 * 8)) x
+        here : word-at (set m (f * 4096 + o) x) (f * 4096 + o / 8 * 8) ≡ put-byte (o % 8) (word-at m (f * 4096 + o / 8 * 8)) x
         here =
             let at : f * 4096 + o ≡ f * 4096 + o / 8 * 8 + o % 8 = omega arith in
-            ap (λ (i : ℕ). wordAt (set m i x) (f * 4096 + o / 8 * 8)) at ∙ word-put (f * 4096 + o / 8 * 8) (o % 8) (omega arith) (omega arith)
+            ap (λ (i : ℕ). word-at (set m i x) (f * 4096 + o / 8 * 8)) at ∙ word-put (f * 4096 + o / 8 * 8) (o % 8) (omega arith) (omega arith)
 
         within : (a b : ℕ) → b < 512 → (a ≡ f) ⊎ (a ≡ f → ⊥) → (b ≡ o / 8) ⊎ (b ≡ o / 8 → ⊥) → word-of (set m (f * 4096 + o) x) a b ≡ upd2 (word-of m) f (o / 8) v a b
         within a b l (inl p) (inl q) = rw (upd2-at (word-of m) f (o / 8) v a b p q, lt-ltb b 512 l, p, q, lt-ltb (o / 8) 512 (omega arith)) here

@@ -8,10 +8,10 @@ use lib.Dec.{eqb, ltb}
 use borrow.Author.Tests.{lt-ltb, le-ltb, eqb-true}
 use Rattle.model.proofs.Laws.Base.{lt?, sum-cong, sum-none, sum-point}
 use Rattle.model.specs.Base.{sum}
-use Rattle.ledger.specs.FreeSet.{FreeSet}
+use Rattle.ledger.specs.Free-set.{Free-set}
 
 -- The set has as many frames as are free.
-module _ (n : ℕ) (K D P : ℕ → ℕ) (count : ℕ) (s : FreeSet n K D P count) where
+module _ (n : ℕ) (K D P : ℕ → ℕ) (count : ℕ) (s : Free-set n K D P count) where
   abbrev among : ℕ → ℕ → ℕ
   among c f = cond (ltb f n && ltb (P f) c) 1 0
 

@@ -8,7 +8,7 @@ use borrow.Author.Tests.{lt-ltb, le-ltb, eq-eqb, ne-eqb, ltb-true, ltb-false}
 use Rattle.model.proofs.Laws.Base.{eq?, lt?}
 use Rattle.model.specs.Base.{upd}
 use Rattle.model.proofs.Laws.Base.{upd-at, upd-other}
-use Rattle.ledger.specs.FreeSet.{FreeSet}
+use Rattle.ledger.specs.Free-set.{Free-set}
 
 -- D when frame f and the one at place q have changed places; P then is the same with the two exchanged
 abbrev pub swapped : (D P : ℕ → ℕ) (f q : ℕ) → ℕ → ℕ
@@ -46,11 +46,11 @@ still-inverse n D P f q p-d hq i l = elim (eq? i q) [
     back : ℕ → ℕ
     back x = swapped P D q f (swapped D P f q x)
 
-module _ (n : ℕ) (K D P : ℕ → ℕ) (count f q : ℕ) (s : FreeSet n K D P count) (hf : f < n) (low-q : q < n) where
+module _ (n : ℕ) (K D P : ℕ → ℕ) (count f q : ℕ) (s : Free-set n K D P count) (hf : f < n) (low-q : q < n) where
   -- the set after it, whose bound has moved past place q and no other
   pub exchanged : (v count′ : ℕ) → count′ ≤ n → eqb v 1 ≡ ltb q count′ →
       ((x : ℕ) → x < n → (x ≡ q → ⊥) → ltb x count′ ≡ ltb x count) → ltb (P f) count′ ≡ ltb q count ⊎ (P f ≡ q) →
-      FreeSet n (upd K f v) (swapped D P f q) (swapped P D q f) count′
+      Free-set n (upd K f v) (swapped D P f q) (swapped P D q f) count′
   exchanged v count′ few inside outside other = record {
     few = few;
     d-low = still-low D P f q n (s .d-low) hf low-q;
@@ -74,14 +74,14 @@ module _ (n : ℕ) (K D P : ℕ → ℕ) (count f q : ℕ) (s : FreeSet n K D P 
       ]
 
 -- a free frame f becomes v, which is not free
-module _ (n : ℕ) (K D P : ℕ → ℕ) (count f v : ℕ) (s : FreeSet n K D P count) (hf : f < n) (was : K f ≡ 1) where
+module _ (n : ℕ) (K D P : ℕ → ℕ) (count f v : ℕ) (s : Free-set n K D P count) (hf : f < n) (was : K f ≡ 1) where
   pub inside : P f < count
   inside = ltb-true (P f) count (sym (s .in-set f hf) ∙ eq-eqb (K f) 1 was)
 
   pub last-low : count - 1 < n
   last-low = let a = s .few in let b = inside in omega arith
 
-  pub left-set : (v ≡ 1 → ⊥) → FreeSet n (upd K f v) (swapped D P f (count - 1)) (swapped P D (count - 1) f) (count - 1)
+  pub left-set : (v ≡ 1 → ⊥) → Free-set n (upd K f v) (swapped D P f (count - 1)) (swapped P D (count - 1) f) (count - 1)
   left-set now =
       let i = inside in
       let few = s .few in
@@ -110,14 +110,14 @@ module _ (n : ℕ) (K D P : ℕ → ℕ) (count f v : ℕ) (s : FreeSet n K D P 
           below x count a ne = elim (lt? x (count - 1)) [ inl b ↦ b | inr b ↦ absurd (ne (omega arith)) ]
 
 -- frame f, which is not free, becomes so
-module _ (n : ℕ) (K D P : ℕ → ℕ) (count f : ℕ) (s : FreeSet n K D P count) (hf : f < n) (was : K f ≡ 1 → ⊥) where
+module _ (n : ℕ) (K D P : ℕ → ℕ) (count f : ℕ) (s : Free-set n K D P count) (hf : f < n) (was : K f ≡ 1 → ⊥) where
   outside : count ≤ P f
   outside = ltb-false (P f) count (sym (s .in-set f hf) ∙ ne-eqb (K f) 1 was)
 
   pub room-left : count < n
   room-left = let a = s .p-low f hf in let b = outside in omega arith
 
-  pub joined-set : FreeSet n (upd K f 1) (swapped D P f count) (swapped P D count f) (count + 1)
+  pub joined-set : Free-set n (upd K f 1) (swapped D P f count) (swapped P D count f) (count + 1)
   joined-set =
       let r = room-left in
       let more : count + 1 ≤ n = omega arith in
@@ -143,7 +143,7 @@ module _ (n : ℕ) (K D P : ℕ → ℕ) (count f : ℕ) (s : FreeSet n K D P co
           ]
 
 -- frame f, which is not free, becomes v, which is not either
-pub kept-set : (n : ℕ) (K D P : ℕ → ℕ) (count f v : ℕ) → FreeSet n K D P count → (K f ≡ 1 → ⊥) → (v ≡ 1 → ⊥) → FreeSet n (upd K f v) D P count
+pub kept-set : (n : ℕ) (K D P : ℕ → ℕ) (count f v : ℕ) → Free-set n K D P count → (K f ≡ 1 → ⊥) → (v ≡ 1 → ⊥) → Free-set n (upd K f v) D P count
 kept-set n K D P count f v s was now = record { few = s .few; d-low = s .d-low; p-low = s .p-low; p-d = s .p-d; d-p = s .d-p; in-set = member }
   where
     member : (x : ℕ) → x < n → eqb (upd K f v x) 1 ≡ ltb (P x) count

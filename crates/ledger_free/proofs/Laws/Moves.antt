@@ -9,16 +9,16 @@ use lib.Dec.{eqb}
 use lib.ListN.{length}
 use borrow.Author.Tests.{eq-eqb, eqb-true}
 use Rattle.model.specs.Base.{upd, upd2}
-use Rattle.model.specs.State.{Kind, free, table, page, is-free}
+use Rattle.model.specs.State.{FrameKind, free, table, page, is-free}
 use Rattle.model.specs.Changes.{drained, released}
 use Rattle.ledger.specs.Cells.{store}
 use Rattle.ledger.specs.Layout.{Row, frames, guest-rows, most-frames, kind-at, size-in, pick-in, pick-of, size-of, kind-of, state-in, state-of}
 use Rattle.ledger.proofs.Laws.Kinds.{kind-here, free-here, stays, remains}
 use Rattle.ledger.specs.Kinds.{kind-for}
-use Rattle.ledger.specs.FreeSet.{FreeSet}
+use Rattle.ledger.specs.Free-set.{Free-set}
 use Rattle.ledger.specs.Fields.{remade, with-kind, with-kind-by}
-use Rattle.ledger.specs.Stock.{Stocked, Stock, Holds, Changed, Taken}
-use Rattle.ledger.proofs.Laws.Stock.{holds-itself, holds-frame, holds-guest, changed, changed-as}
+use Rattle.ledger.specs.LedgerSound.{Rows-sound, Ledger-sound, Holds, Changed, Taken}
+use Rattle.ledger.proofs.Laws.LedgerSound.{holds-itself, holds-frame, holds-guest, changed, changed-as}
 use Rattle.ledger.proofs.Laws.Fields.{Aside, aside-none, aside, state-free, state-kind, upd-self}
 use Rattle.ledger.proofs.Laws.Stores.{row-low, guests-there}
 use Rattle.ledger_free.proofs.Laws.Exchange.{swapped, inside, last-low, left-set, room-left, joined-set, kept-set}
@@ -35,7 +35,7 @@ holds-placed x f q a b c d = holds-frame (holds-frame x 12 q f (omega arith) c (
 aside-placed : {F F′ : ℕ → ℕ → ℕ} (f q : ℕ) → Aside F F′ → Aside F (placed-in F′ f q)
 aside-placed f q h = aside (aside h 12 q f (inr (omega arith))) 13 f q (inr (omega arith))
 
-module _ (l : List ℕ) (s : Stock l) (f : ℕ) (hf : f < size-of l) where
+module _ (l : List ℕ) (s : Ledger-sound l) (f : ℕ) (hf : f < size-of l) where
   abbrev F : ℕ → ℕ → ℕ
   F = frames l
 
@@ -56,7 +56,7 @@ module _ (l : List ℕ) (s : Stock l) (f : ℕ) (hf : f < size-of l) where
   not-one e x = true≢false (sym (eq-eqb (F 0 f) 1 x) ∙ sym (free-here F G f hf) ∙ e)
 
   -- f changes places with the frame at q and becomes k, and count′ frames are free
-  module _ (q k count′ : ℕ) (hq : q < size-of l) (after : FreeSet (size-of l) (upd (F 0) f k) (swapped (F 12) (F 13) f q) (swapped (F 13) (F 12) q f) count′) where
+  module _ (q k count′ : ℕ) (hq : q < size-of l) (after : Free-set (size-of l) (upd (F 0) f k) (swapped (F 12) (F 13) f q) (swapped (F 13) (F 12) q f) count′) where
     abbrev F′ : ℕ → ℕ → ℕ
     F′ = upd2 (placed-in (placed-in F (F 12 q) (F 13 f)) f q) 0 f k
 
@@ -78,7 +78,7 @@ module _ (l : List ℕ) (s : Stock l) (f : ℕ) (hf : f < size-of l) where
 
     -- whatever else is stored of what it is
     module _ (l′ : List ℕ) (F″ : ℕ → ℕ → ℕ) (g h p : ℕ) (x : Holds (length l) l′ F″ G′) (e0 : F″ 0 ≡ upd (F 0) f k) (e12 : F″ 12 ≡ swapped (F 12) (F 13) f q) (e13 : F″ 13 ≡ swapped (F 13) (F 12) q f) where
-      stocked : Stocked (length l) F″ G′
+      stocked : Rows-sound (length l) F″ G′
       unfolding size-in upd2 upd
       stocked = record { length-fits = s .length-fits; few = s .few; free-set = rw (e0, e12, e13) after }
 
@@ -97,7 +97,7 @@ module _ (l : List ℕ) (s : Stock l) (f : ℕ) (hf : f < size-of l) where
         (omega arith, last-low (size-of l) (F 0) (F 12) (F 13) (G 3 0) f 0 (s .free-set) hf (free-cell was))
 
     module _ (k : ℕ) (now : k ≡ 1 → ⊥) where
-      left : FreeSet (size-of l) (upd (F 0) f k) (swapped (F 12) (F 13) f last) (swapped (F 13) (F 12) last f) last
+      left : Free-set (size-of l) (upd (F 0) f k) (swapped (F 12) (F 13) f last) (swapped (F 13) (F 12) last f) last
       left = left-set (size-of l) (F 0) (F 12) (F 13) (G 3 0) f k (s .free-set) hf (free-cell was) now
 
       abbrev Fₖ : ℕ → ℕ → ℕ
@@ -155,7 +155,7 @@ module _ (l : List ℕ) (s : Stock l) (f : ℕ) (hf : f < size-of l) where
         rw (x, e) (becomes (G 3 0) 1 (G 3 0 + 1) place-left a (settled l f (G 3 0) 1 (G 3 0 + 1)) (F′ (G 3 0) 1 (G 3 0 + 1) place-left a) (F 1 f) (F 2 f) (F 3 f) (holds-settled (G 3 0) 1 (G 3 0 + 1) place-left a)
         refl refl refl (sym (upd-self (F 1) f)) (sym (upd-self (F 2) f)) (sym (upd-self (F 3) f)) (aside-settled (G 3 0) 1 (G 3 0 + 1) place-left a))
       where
-        joined : FreeSet (size-of l) (upd (F 0) f 1) (swapped (F 12) (F 13) f (G 3 0)) (swapped (F 13) (F 12) (G 3 0) f) (G 3 0 + 1)
+        joined : Free-set (size-of l) (upd (F 0) f 1) (swapped (F 12) (F 13) f (G 3 0)) (swapped (F 13) (F 12) (G 3 0) f) (G 3 0 + 1)
         joined = joined-set (size-of l) (F 0) (F 12) (F 13) (G 3 0) f (s .free-set) hf was
 
     pub relabelled : (k : ℕ) (l′ : List ℕ) → (k ≡ 1 → ⊥) → l′ ≡ store 144 l 0 f k → Changed (with-kind f (kind-at k (F 1 f) (F 2 f) (F 3 f))) l l′
@@ -167,15 +167,15 @@ module _ (l : List ℕ) (s : Stock l) (f : ℕ) (hf : f < size-of l) where
         (λ w. state-kind F (upd2 F 0 f k) G w f k (F 1 f) (F 2 f) (F 3 f) hf refl (sym (upd-self (F 1) f)) (sym (upd-self (F 2) f)) (sym (upd-self (F 3) f)) (aside aside-none 0 f k (inl (omega arith)))))
 
   -- what f is turned by φ: as it was, or anew
-  turned : (φ : Kind → Kind) (k : Kind) (l′ : List ℕ) → φ (kind-of l f) ≡ k → Changed (with-kind f k) l l′ → Changed (with-kind-by f φ) l l′
-  turned φ k l′ e c = changed-as c (λ ram. unfold with-kind-by state-in in ap (λ (x : Kind). with-kind f x (state-of ram l)) (sym e))
+  turned : (φ : FrameKind → FrameKind) (k : FrameKind) (l′ : List ℕ) → φ (kind-of l f) ≡ k → Changed (with-kind f k) l l′ → Changed (with-kind-by f φ) l l′
+  turned φ k l′ e c = changed-as c (λ ram. unfold with-kind-by state-in in ap (λ (x : FrameKind). with-kind f x (state-of ram l)) (sym e))
 
-  unturned : (φ : Kind → Kind) → φ (kind-of l f) ≡ kind-of l f → Changed (with-kind-by f φ) l l
-  unturned φ e = record { stock = s; state = λ ram. sym (same ram) }
+  unturned : (φ : FrameKind → FrameKind) → φ (kind-of l f) ≡ kind-of l f → Changed (with-kind-by f φ) l l
+  unturned φ e = record { ledger-sound = s; state = λ ram. sym (same ram) }
     where
       same : (ram : List ℕ) → with-kind-by f φ (state-of ram l) ≡ state-of ram l
       same ram = unfold with-kind-by with-kind remade state-in in
-          ap (λ (K : ℕ → Kind). remade (state-of ram l) K (state-of ram l .shared) (state-of ram l .count) (state-of ram l .exists) (state-of ram l .root) (state-of ram l .dirty) (state-of ram l .word)) (ap (upd (kind-of l) f) e ∙ upd-self (kind-of l) f)
+          ap (λ (K : ℕ → FrameKind). remade (state-of ram l) K (state-of ram l .shared) (state-of ram l .count) (state-of ram l .exists) (state-of ram l .root) (state-of ram l .dirty) (state-of ram l .word)) (ap (upd (kind-of l) f) e ∙ upd-self (kind-of l) f)
 
   -- by the number k that the code has read of f for guest g
   module _ (g k : ℕ) (ek : k ≡ kind-for F f g) where
@@ -186,7 +186,7 @@ module _ (l : List ℕ) (s : Stock l) (f : ℕ) (hf : f < size-of l) where
         go true x = (refl, x)
         go false x = absurd (omega arith)
 
-    known : {A : Type 0} (φ : Kind → A) (j : ℕ) (y : A) → k ≡ j → 0 < j → (eqb (F 1 f) g ≡ true → φ (kind-at j (F 1 f) (F 2 f) (F 3 f)) ≡ y) → φ (kind-of l f) ≡ y
+    known : {A : Type 0} (φ : FrameKind → A) (j : ℕ) (y : A) → k ≡ j → 0 < j → (eqb (F 1 f) g ≡ true → φ (kind-at j (F 1 f) (F 2 f) (F 3 f)) ≡ y) → φ (kind-of l f) ≡ y
     known φ j y e pos x = let a = is-it j e pos in rw (kind-here F G f hf, a .1) (x (a .0))
 
     pub drain-none : (k ≡ 2 → ⊥) → (k ≡ 4 → ⊥) → Changed (with-kind-by f (drained g)) l l

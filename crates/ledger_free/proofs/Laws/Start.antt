@@ -8,7 +8,7 @@ use native.Mathlib.Omega.{arith}
 use lib.Dec.{ltb}
 use lib.ListN.{length, getD, List·getD-eq-default}
 use borrow.Author.Tests.{le-ltb, lt-ltb, le-leb, lt-leb}
-use Rattle.memory.specs.Word.{clearedAt}
+use Rattle.memory.specs.Word.{cleared-at}
 use Rattle.memory.proofs.Laws.Words.{cleared-length, cleared-byte}
 use Rattle.model.proofs.Laws.Base.{lt?}
 use Rattle.model.specs.Base.{upd, upd2}
@@ -18,28 +18,28 @@ use Rattle.model.specs.Operations.{at-first, started}
 use Rattle.ledger.specs.Cells.{cell, store}
 use Rattle.ledger.proofs.Laws.Cells.{column-other}
 use Rattle.ledger.specs.Layout.{frames, words-for, most-frames, kind-at, size-in, first-in, kind-in, per-guest, share-part, count-part, exists-in, dirty-in, root-in, pick-in, word-of, state-in}
-use Rattle.ledger.specs.FreeSet.{FreeSet}
-use Rattle.ledger.specs.Stock.{Stocked, Holds}
-use Rattle.ledger.proofs.Laws.Stock.{holds-frame, holds-guest}
+use Rattle.ledger.specs.Free-set.{Free-set}
+use Rattle.ledger.specs.LedgerSound.{Rows-sound, Holds}
+use Rattle.ledger.proofs.Laws.LedgerSound.{holds-frame, holds-guest}
 use Rattle.ledger.proofs.Laws.Fields.{guest-low}
 use Rattle.ledger_free.specs.Moves.{placed}
-use Rattle.ledger_free.specs.Start.{LaidOut, kind-first, none, Filled, ram-stored}
+use Rattle.ledger_free.specs.Start.{Laid-out, kind-first, none, Filled, ram-stored}
 
-zero-cell : (o m : ℕ) (l : List ℕ) (j r : ℕ) → cell o m (clearedAt l 0 (length l)) j r ≡ 0
+zero-cell : (o m : ℕ) (l : List ℕ) (j r : ℕ) → cell o m (cleared-at l 0 (length l)) j r ≡ 0
 unfolding cell
 zero-cell o m l j r = go (ltb j 16 && ltb r m)
   where
-    at : getD (clearedAt l 0 (length l)) (o + 16 * r + j) 0 ≡ 0
+    at : getD (cleared-at l 0 (length l)) (o + 16 * r + j) 0 ≡ 0
     at = elim (lt? (o + 16 * r + j) (length l)) [
       | inl k ↦ cleared-byte l 0 (length l) (o + 16 * r + j) (omega arith) (omega arith) (omega arith)
-      | inr k ↦ List·getD-eq-default (clearedAt l 0 (length l)) 0 (let q = cleared-length l 0 (length l) in omega arith)
+      | inr k ↦ List·getD-eq-default (cleared-at l 0 (length l)) 0 (let q = cleared-length l 0 (length l) in omega arith)
     ]
 
-    go : (x : Bool) → cond x (getD (clearedAt l 0 (length l)) (o + 16 * r + j) 0) 0 ≡ 0
+    go : (x : Bool) → cond x (getD (cleared-at l 0 (length l)) (o + 16 * r + j) 0) 0 ≡ 0
     go true = at
     go false = refl
 
-pub filled-none : (n k : ℕ) (l l′ : List ℕ) → length l ≡ words-for n → l′ ≡ clearedAt l 0 (length l) → Filled n k 0 l′
+pub filled-none : (n k : ℕ) (l l′ : List ℕ) → length l ≡ words-for n → l′ ≡ cleared-at l 0 (length l) → Filled n k 0 l′
 unfolding none
 filled-none n k l l′ len e = rw e (record {
   length-is = cleared-length l 0 (length l) ∙ len;
@@ -138,7 +138,7 @@ module _ (b : ℕ) {n k : ℕ} {l : List ℕ} (h : Filled n k n l) (hk : k < n) 
       joins : (x : ℕ) → x % 4294967296 + 4294967296 * (x / 4294967296) ≡ x
       joins x = omega arith
 
-  set-is : FreeSet n (F 0) (F 12) (F 13) (n - k)
+  set-is : Free-set n (F 0) (F 12) (F 13) (n - k)
   set-is = record {
     few = omega arith;
     d-low = λ i a. rw (h .dense i a (omega arith)) (omega arith);
@@ -151,7 +151,7 @@ module _ (b : ℕ) {n k : ℕ} {l : List ℕ} (h : Filled n k n l) (hk : k < n) 
     ]);
   }
 
-  stocked : Stocked (words-for n) F G
+  stocked : Rows-sound (words-for n) F G
   unfolding size-in none upd2 upd
   stocked = record { length-fits = refl; few = few; free-set = set-is }
 
@@ -162,7 +162,7 @@ module _ (b : ℕ) {n k : ℕ} {l : List ℕ} (h : Filled n k n l) (hk : k < n) 
       back : n - 1 - (n - k - 1 - i) ≡ k + i
       back = omega arith
 
-  pub laid-out : {l₁ l′ : List ℕ} → l₁ ≡ ram-stored l n (b / 4096) → l′ ≡ store 0 l₁ 3 0 (n - k) → LaidOut n b k l′
+  pub laid-out : {l₁ l′ : List ℕ} → l₁ ≡ ram-stored l n (b / 4096) → l′ ≡ store 0 l₁ 3 0 (n - k) → Laid-out n b k l′
   unfolding ram-stored
   laid-out {l₁} {l′} e1 e2 =
       let len = h .length-is in
@@ -170,4 +170,4 @@ module _ (b : ℕ) {n k : ℕ} {l : List ℕ} (h : Filled n k n l) (hk : k < n) 
       let x : Holds (words-for n) l′ F G = rw (e2, e1) (holds-guest (holds-guest (holds-guest (holds-guest d
       4 0 n (omega arith) (omega arith) (omega arith)) 5 0 (b / 4096 % 4294967296) (omega arith) (omega arith) (omega arith))
       6 0 (b / 4096 / 4294967296) (omega arith) (omega arith) (omega arith)) 3 0 (n - k) (omega arith) (omega arith) (omega arith)) in
-      record { stock = rw (x .length-is, x .frames-are, x .guests-are) stocked; state = λ ram. rw (x .frames-are, x .guests-are) (state-is (word-of ram)); lowest-first = λ i a. rw (x .frames-are, x .guests-are) (order-is i a) }
+      record { ledger-sound = rw (x .length-is, x .frames-are, x .guests-are) stocked; state = λ ram. rw (x .frames-are, x .guests-are) (state-is (word-of ram)); lowest-first = λ i a. rw (x .frames-are, x .guests-are) (order-is i a) }

@@ -6,15 +6,15 @@ use native.Mathlib.Nat.{add-assoc, add-zero, div-one}
 use native.Mathlib.Omega.{arith}
 use lib.ListN.{getD}
 use lib.Pow.{shr-shr}
-use Rattle.memory.specs.Word.{wordAt}
+use Rattle.memory.specs.Word.{word-at}
 
 -- the number of n + 1 bytes from `at` on
 unfoldable pub bytes-from : (n : ℕ) → List ℕ → ℕ → ℕ
 bytes-from zero m at = getD m at 0
 bytes-from (suc n) m at = getD m at 0 + 256 * bytes-from n m (at + 1)
 
-pub word-bytes : (m : List ℕ) (at : ℕ) → wordAt m at ≡ bytes-from 7 m at
-unfolding wordAt bytes-from
+pub word-bytes : (m : List ℕ) (at : ℕ) → word-at m at ≡ bytes-from 7 m at
+unfolding word-at bytes-from
 word-bytes m at = simp add-assoc
 
 -- equal bytes make equal numbers

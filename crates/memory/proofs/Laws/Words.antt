@@ -8,11 +8,11 @@ use native.Mathlib.Nat.{eq-or-lt-of-le, le-of-suc-le-suc, not-suc-le-zero, add-z
 use native.Mathlib.Omega.{arith}
 use lib.ListN.{take, drop, getD, set, length, length-set}
 use lib.Seq.{getD-take, getD-drop, getD-set-same, getD-set-other}
-use Rattle.memory.specs.Word.{wordAt, storedAt, clearedAt}
+use Rattle.memory.specs.Word.{word-at, stored-at, cleared-at}
 use Rattle.memory.proofs.Laws.Bytes.{word-bytes, bytes-agree, bytes-made}
 
 -- two lists that agree on the eight bytes have the same word
-pub word-agree : (m l : List ℕ) (at : ℕ) → ((i : ℕ) → at ≤ i → i < at + 8 → getD m i 0 ≡ getD l i 0) → wordAt m at ≡ wordAt l at
+pub word-agree : (m l : List ℕ) (at : ℕ) → ((i : ℕ) → at ≤ i → i < at + 8 → getD m i 0 ≡ getD l i 0) → word-at m at ≡ word-at l at
 word-agree m l at h = rw (word-bytes m, word-bytes l) (bytes-agree 7 m l at at (λ i p. h (at + i) (omega arith) (omega arith)))
 
 -- m with the lowest k bytes of v from `at` on: a store, byte by byte
@@ -20,8 +20,8 @@ unfoldable lowest : ℕ → List ℕ → ℕ → ℕ → List ℕ
 lowest zero m at v = m
 lowest (suc k) m at v = set (lowest k m at v) (at + k) (v / 2 ^ (8 * k) % 256)
 
-stored-lowest : (m : List ℕ) (at v : ℕ) → storedAt m at v ≡ lowest 8 m at v
-unfolding storedAt lowest
+stored-lowest : (m : List ℕ) (at v : ℕ) → stored-at m at v ≡ lowest 8 m at v
+unfolding stored-at lowest
 stored-lowest m at v = simp (add-zero, div-one)
 
 lowest-length : (k : ℕ) (m : List ℕ) (at v : ℕ) → length (lowest k m at v) ≡ length m
@@ -37,17 +37,17 @@ lowest-other (suc k) m at v i h =
     getD-set-other (lowest k m at v) (at + k) i _ 0 n ∙ lowest-other k m at v i (λ p q. h p (omega arith))
 
 -- the length stays
-pub length-kept : (m : List ℕ) (at v : ℕ) → length (storedAt m at v) ≡ length m
+pub length-kept : (m : List ℕ) (at v : ℕ) → length (stored-at m at v) ≡ length m
 length-kept m at v = rw stored-lowest (lowest-length 8 m at v)
 
 -- a byte outside of the word stays
-pub byte-other : (m : List ℕ) (at v i : ℕ) → (at ≤ i → i < at + 8 → ⊥) → getD (storedAt m at v) i 0 ≡ getD m i 0
+pub byte-other : (m : List ℕ) (at v i : ℕ) → (at ≤ i → i < at + 8 → ⊥) → getD (stored-at m at v) i 0 ≡ getD m i 0
 byte-other m at v i h = rw stored-lowest (lowest-other 8 m at v i h)
 
 -- a word none of whose bytes was stored stays
-pub word-other : (m : List ℕ) (at v to : ℕ) → (at < to + 8 → to < at + 8 → ⊥) → wordAt (storedAt m at v) to ≡ wordAt m to
+pub word-other : (m : List ℕ) (at v to : ℕ) → (at < to + 8 → to < at + 8 → ⊥) → word-at (stored-at m at v) to ≡ word-at m to
 word-other m at v to h =
-    word-agree (storedAt m at v) m to (λ i p q. byte-other m at v i (λ s t. h (omega arith) (omega arith)))
+    word-agree (stored-at m at v) m to (λ i p q. byte-other m at v i (λ s t. h (omega arith) (omega arith)))
 
 lowest-byte : (k : ℕ) (m : List ℕ) (at v i : ℕ) → i < k → at + k ≤ length m → getD (lowest k m at v) (at + i) 0 ≡ v / 2 ^ (8 * i) % 256
 unfolding lowest
@@ -61,45 +61,45 @@ lowest-byte (suc k) m at v i h room =
     ]
 
 -- the word that was stored is there
-pub word-same : (m : List ℕ) (at v : ℕ) → at + 8 ≤ length m → v < 2 ^ 64 → wordAt (storedAt m at v) at ≡ v
+pub word-same : (m : List ℕ) (at v : ℕ) → at + 8 ≤ length m → v < 2 ^ 64 → word-at (stored-at m at v) at ≡ v
 word-same m at v room h = rw (stored-lowest, word-bytes) (bytes-made 7 (lowest 8 m at v) at v (λ i p. lowest-byte 8 m at v i (omega arith) room) (omega arith))
 
 -- nothing cleared is nothing changed; one byte more
-pub cleared-none : (m : List ℕ) (at : ℕ) → clearedAt m at 0 ≡ m
-unfolding clearedAt
+pub cleared-none : (m : List ℕ) (at : ℕ) → cleared-at m at 0 ≡ m
+unfolding cleared-at
 cleared-none m at = refl
 
-pub cleared-more : {l : List ℕ} (m : List ℕ) (at k : ℕ) → l ≡ clearedAt m at k → set l (at + k) 0 ≡ clearedAt m at (k + 1)
-unfolding clearedAt
+pub cleared-more : {l : List ℕ} (m : List ℕ) (at k : ℕ) → l ≡ cleared-at m at k → set l (at + k) 0 ≡ cleared-at m at (k + 1)
+unfolding cleared-at
 cleared-more m at k e = rw (add-one, e)
 
 -- the length stays
-pub cleared-length : (m : List ℕ) (at k : ℕ) → length (clearedAt m at k) ≡ length m
-unfolding clearedAt
+pub cleared-length : (m : List ℕ) (at k : ℕ) → length (cleared-at m at k) ≡ length m
+unfolding cleared-at
 cleared-length m at zero = refl
 cleared-length m at (suc k) = simp length-set (cleared-length m at k)
 
 -- a byte outside stays
-pub cleared-other : (m : List ℕ) (at k i : ℕ) → (at ≤ i → i < at + k → ⊥) → getD (clearedAt m at k) i 0 ≡ getD m i 0
-unfolding clearedAt
+pub cleared-other : (m : List ℕ) (at k i : ℕ) → (at ≤ i → i < at + k → ⊥) → getD (cleared-at m at k) i 0 ≡ getD m i 0
+unfolding cleared-at
 cleared-other m at zero i h = refl
 cleared-other m at (suc k) i h =
     let n : i ≡ at + k → ⊥ = λ e. h (omega arith) (omega arith) in
-    getD-set-other (clearedAt m at k) (at + k) i _ 0 n ∙ cleared-other m at k i (λ p q. h p (omega arith))
+    getD-set-other (cleared-at m at k) (at + k) i _ 0 n ∙ cleared-other m at k i (λ p q. h p (omega arith))
 
 -- a byte inside is 0
-pub cleared-byte : (m : List ℕ) (at k i : ℕ) → at + k ≤ length m → at ≤ i → i < at + k → getD (clearedAt m at k) i 0 ≡ 0
-unfolding clearedAt
+pub cleared-byte : (m : List ℕ) (at k i : ℕ) → at + k ≤ length m → at ≤ i → i < at + k → getD (cleared-at m at k) i 0 ≡ 0
+unfolding cleared-at
 cleared-byte m at zero i room p q = omega arith
 cleared-byte m at (suc k) i room p q =
     let le : i ≤ at + k = omega arith in
     elim (eq-or-lt-of-le le) [
-      | inl e ↦ rw e (getD-set-same (clearedAt m at k) (at + k) 0 0 (omega (arith, cleared-length m at k)))
+      | inl e ↦ rw e (getD-set-same (cleared-at m at k) (at + k) 0 0 (omega (arith, cleared-length m at k)))
       | inr l ↦
-          getD-set-other (clearedAt m at k) (at + k) i _ 0 (λ e. omega arith)
+          getD-set-other (cleared-at m at k) (at + k) i _ 0 (λ e. omega arith)
           ∙ cleared-byte m at k i (omega arith) p l
     ]
 
 -- the word at a place is the first of the part that begins there
-pub word-of-part : (m : List ℕ) (at n : ℕ) → 8 ≤ n → wordAt (take n (drop at m)) 0 ≡ wordAt m at
+pub word-of-part : (m : List ℕ) (at n : ℕ) → 8 ≤ n → word-at (take n (drop at m)) 0 ≡ word-at m at
 word-of-part m at n room = rw (word-bytes _ 0, word-bytes m) (bytes-agree 7 (take n (drop at m)) m 0 at (λ i p. simp zero-add (getD-take n (drop at m) i 0 (omega arith) ∙ getD-drop at m i 0)))

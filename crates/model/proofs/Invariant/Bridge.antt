@@ -6,14 +6,14 @@ use mathlib.Core.Option.{Option, some}
 use Prim.Native.Nat.{ℕ, zero, suc, _+_, _*_, _-_, _≤_, _<_, _/_, _%_, _^_}
 use native.Mathlib.Omega.{arith}
 use lib.ListN.{length}
-use Rattle.walk_descriptor.specs.declared.Kind.the-variants.{Translation, Permission}
+use Rattle.walk_descriptor.specs.declared.FaultKind.the-variants.{Translation, Permission}
 use Rattle.walk.specs.Memory.{read-at}
 use Rattle.walk_descriptor.specs.Descriptor.{span, slot, address, allows-2}
 use Rattle.walk.specs.Both.{Walked, ends, having-fetched, One, reached, failed, stage-2, tell-2, answer-2}
 use Rattle.walk.specs.Steps.{rest-2}
 use Rattle.walk.proofs.Laws.Level.{read-in, slot-at, stage-2-rest, level-empty, level-table, level-page}
 use Rattle.walk.proofs.Laws.Fits.{answer-2-is}
-use Rattle.model.specs.State.{State, table, pages}
+use Rattle.model.specs.State.{State, table, page-count}
 use Rattle.model.specs.Entry.{Entry, empty, to-table, to-page, other, table-entry, page-entry}
 use Rattle.model.proofs.Laws.Entry.{is-empty, is-table, is-to-page, table-kind, page-bits}
 use Rattle.model.specs.Translate.{upper, index, entry-at, descend, page-at, translate, missing-from, missing}
@@ -69,7 +69,7 @@ module _ (s : State) (c : Core s) (b : ℕ) (m : List ℕ) (x : Image s b m) (g 
       (ends-now (failed Translation (3 - h)))
 
   -- a table
-  at-table : (h t t′ : ℕ) {o : One} {n : ℕ} → h < 3 → t < s .size → s .first + t′ < pages → entry-at s t (index (suc h) (a / 4096)) ≡ to-table t′ → Ends (rest h t′) o n → Ends (rest (suc h) t) o (suc n)
+  at-table : (h t t′ : ℕ) {o : One} {n : ℕ} → h < 3 → t < s .size → s .first + t′ < page-count → entry-at s t (index (suc h) (a / 4096)) ≡ to-table t′ → Ends (rest h t′) o n → Ends (rest (suc h) t) o (suc n)
   at-table h t t′ l k r e y =
       let d = table-entry (s .first) t′ in
       let base = x .base in
@@ -79,7 +79,7 @@ module _ (s : State) (c : Core s) (b : ℕ) (m : List ℕ) (x : Image s b m) (g 
       ∙ ap (λ (u : ℕ). having-fetched (slot (3 - suc h) a (b + 4096 * t) ∷ []) (rest-2 m b (access w) a h u)) to) y
 
   -- a page
-  at-page : (t f r : ℕ) → t < s .size → s .first + f < pages → entry-at s t (index 0 (a / 4096)) ≡ to-page f r → Ends (rest 0 t) (comes b (a % 4096) 0 w (some (f, r))) 1
+  at-page : (t f r : ℕ) → t < s .size → s .first + f < page-count → entry-at s t (index 0 (a / 4096)) ≡ to-page f r → Ends (rest 0 t) (comes b (a % 4096) 0 w (some (f, r))) 1
   at-page t f r k l e =
       let d = page-entry (s .first) f r in
       let base = x .base in

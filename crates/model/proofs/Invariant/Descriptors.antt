@@ -5,13 +5,13 @@ use native.Mathlib.Omega.{arith}
 use lib.Dec.{eqb}
 use Rattle.walk_descriptor.specs.Descriptor.{address, allows-2}
 use Rattle.walk.proofs.Laws.Level.{rights-at}
-use Rattle.model.specs.State.{pages}
+use Rattle.model.specs.State.{page-count}
 use Rattle.model.specs.Entry.{table-entry, page-entry}
 use Rattle.model.proofs.Laws.Entry.{table-page, page-bits}
 use Rattle.model.specs.Cache.{Access, reading, writing, executing, grants}
 use Rattle.model.specs.Bytes.{access}
 
-module _ (first t : ℕ) (l : first + t < pages) where
+module _ (first t : ℕ) (l : first + t < page-count) where
   pub table-low : table-entry first t / 2 ^ 48 % 8 ≡ 0
   unfolding table-entry
   table-low = omega arith
@@ -29,7 +29,7 @@ contrary zero l = refl
 contrary (suc zero) l = refl
 contrary (suc (suc x)) l = absurd (omega arith)
 
-module _ (first f r : ℕ) (l : first + f < pages) where
+module _ (first f r : ℕ) (l : first + f < page-count) where
   pub page-address : address (page-entry first f r) ≡ 4096 * first + 4096 * f
   page-address = let z = page-bits first f r l .page in omega arith
 

@@ -11,7 +11,7 @@ use borrow.Author.Tests.{leb-true, eq-eqb, ne-eqb}
 use Rattle.model.proofs.Laws.Base.{eq?, bool?, and-true, not-true}
 use Rattle.model.specs.Base.{upd, upd2}
 use Rattle.model.proofs.Laws.Base.{upd-same, upd-at, upd-other}
-use Rattle.model.specs.State.{State, Kind, free, table, page, draining-page, pages, free-frames}
+use Rattle.model.specs.State.{State, FrameKind, free, table, page, draining-page, page-count, free-frames}
 use Rattle.model.specs.Entry.{empty, to-page, entry, page-entry}
 use Rattle.model.proofs.Laws.Entry.{entry-empty}
 use Rattle.model.specs.Translate.{entry-at, descend, Page, page-in, page-at, leaf, translate, mapped, missing}
@@ -38,14 +38,14 @@ nobody-translates s g v e = rw e
 -- where the tables stay, so does what they say
 module _ (s : State) (c : Core s) (s′ : State) (h : ℕ) (es : s′ .exists h ≡ s .exists h) (rs : s′ .root h ≡ s .root h)
     (ws : (t g n p : ℕ) → s .kind t ≡ table g n p → (i : ℕ) → entry-at s′ t i ≡ entry-at s t i) where
-  same-way : (v : ℕ) → v < pages → leaf s′ h v ≡ leaf s h v
+  same-way : (v : ℕ) → v < page-count → leaf s′ h v ≡ leaf s h v
   unfolding leaf
   same-way v l = rw (es, rs) (elim (bool? (s .exists h)) [
     | inl e ↦ rw e (descend-same s c s′ (λ t g n p a i. ws t g (suc n) p a i) h 3 (s .root h) v (root-serves (s .kind (s .root h)) h v (c .roots h e) l))
     | inr e ↦ rw e
   ])
 
-  pub same-translate : (v : ℕ) → v < pages → translate s′ h v ≡ translate s h v
+  pub same-translate : (v : ℕ) → v < page-count → translate s′ h v ≡ translate s h v
   unfolding translate
   same-translate v l = rw (same-way v l) (go (leaf s h v) refl)
     where
@@ -54,14 +54,14 @@ module _ (s : State) (c : Core s) (s′ : State) (h : ℕ) (es : s′ .exists h 
       go (some u) q = ap page-in (ws u h 0 (v / 512) (leaf-kind s c h v u l q) (v % 512))
 
 abbrev Row : State → Operation → State → Type 0
-Row s o s′ = (h v : ℕ) → v < pages → translate s′ h v ≡ expected s o h v
+Row s o s′ = (h v : ℕ) → v < page-count → translate s′ h v ≡ expected s o h v
 
 module _ (s : State) (c : Core s) where
   -- frames that are no tables: give, take, share, unshare
-  becomes-same : (f : ℕ) (y : Kind) (w sh : ℕ → ℕ → ℕ) → ((t g n p : ℕ) → s .kind t ≡ table g n p → (i : ℕ) → w t i ≡ s .word t i) → (h v : ℕ) → v < pages → translate (becomes s f y w sh) h v ≡ translate s h v
+  becomes-same : (f : ℕ) (y : FrameKind) (w sh : ℕ → ℕ → ℕ) → ((t g n p : ℕ) → s .kind t ≡ table g n p → (i : ℕ) → w t i ≡ s .word t i) → (h v : ℕ) → v < page-count → translate (becomes s f y w sh) h v ≡ translate s h v
   becomes-same f y w sh hw h v l = same-translate s c (becomes s f y w sh) h (unfold becomes in refl) (unfold becomes in refl) (unfold becomes in λ t g n p a i. ap (entry (s .first)) (hw t g n p a i)) v l
 
-  clean-same : (g h v : ℕ) → v < pages → translate (clean s g) h v ≡ translate s h v
+  clean-same : (g h v : ℕ) → v < page-count → translate (clean s g) h v ≡ translate s h v
   clean-same g h v l = same-translate s c (clean s g) h (unfold clean in refl) (unfold clean in refl) (unfold clean in λ t g n p a i. refl) v l
 
   -- create: the new root is all zero, and the guest did not exist
@@ -70,22 +70,22 @@ module _ (s : State) (c : Core s) where
     unfolding translate leaf descend with-root zeros
     new-root v = rw (upd-same (s .exists) g true, upd-same (s .root) g t, upd-same (s .word) t zeros, entry-empty (s .first))
 
-    root-same : (h v : ℕ) → v < pages → translate (with-root s g t) h v ≡ translate s h v
+    root-same : (h v : ℕ) → v < page-count → translate (with-root s g t) h v ≡ translate s h v
     root-same h v l = elim (eq? h g) [
       | inl e ↦ rw e (new-root v ∙ sym (nobody-translates s g v none-yet))
       | inr e ↦ same-translate s c (with-root s g t) h (unfold with-root in upd-other (s .exists) g true h e) (unfold with-root in upd-other (s .root) g t h e)
           (unfold with-root in λ u g′ n p a i. ap (entry (s .first)) (root-word s c g t none-yet hg hf u (table g′ n p) a refl i)) v l
     ]
 
-  destroyed-row : (g h v : ℕ) → v < pages → translate (without-guest s g) h v ≡ cond (eqb h g) none (translate s h v)
+  destroyed-row : (g h v : ℕ) → v < page-count → translate (without-guest s g) h v ≡ cond (eqb h g) none (translate s h v)
   destroyed-row g h v l = elim (eq? h g) [
     | inl e ↦ rw (eq-eqb h g e) (nobody-translates (without-guest s g) h v (unfold without-guest in upd-at (s .exists) g false h e))
     | inr e ↦ rw (ne-eqb h g e) (same-translate s c (without-guest s g) h (unfold without-guest in upd-other (s .exists) g false h e) (unfold without-guest in refl) (unfold without-guest in λ t g n p a i. refl) v l)
   ]
 
   -- at one address, o; elsewhere as before
-  at-one : (g v′ : ℕ) (o : Option Page) (s′ : State) → translate s′ g v′ ≡ o → ((h v : ℕ) → v < pages → (h ≡ g → v ≡ v′ → ⊥) → translate s′ h v ≡ translate s h v) →
-      (h v : ℕ) → v < pages → translate s′ h v ≡ cond (eqb h g && eqb v v′) o (translate s h v)
+  at-one : (g v′ : ℕ) (o : Option Page) (s′ : State) → translate s′ g v′ ≡ o → ((h v : ℕ) → v < page-count → (h ≡ g → v ≡ v′ → ⊥) → translate s′ h v ≡ translate s h v) →
+      (h v : ℕ) → v < page-count → translate s′ h v ≡ cond (eqb h g && eqb v v′) o (translate s h v)
   at-one g v′ o s′ here there h v l = elim (eq? h g) [
     | inr a ↦ rw (ne-eqb h g a) (there h v l (λ x y. a x))
     | inl a ↦ elim (eq? v v′) [
@@ -95,7 +95,7 @@ module _ (s : State) (c : Core s) where
   ]
 
   -- unmap
-  module _ (g v t f r : ℕ) (lv : v < pages) (hl : leaf s g v ≡ some t) (he : entry-at s t (v % 512) ≡ to-page f r) where
+  module _ (g v t f r : ℕ) (lv : v < page-count) (hl : leaf s g v ≡ some t) (he : entry-at s t (v % 512) ≡ to-page f r) where
     private-t : s .kind t ≡ table g 0 (v / 512)
     private-t = leaf-kind s c g v t lv hl
 
@@ -108,15 +108,15 @@ module _ (s : State) (c : Core s) where
     here : entry-at s′ t (v % 512) ≡ empty
     here = unfold without-page in set-same s c t g (v / 512) (v % 512) private-t (omega arith) 0 empty (entry-empty (s .first))
 
-    unmapped-row : (h v′ : ℕ) → v′ < pages → translate s′ h v′ ≡ cond (eqb h g && eqb v′ v) none (translate s h v′)
+    unmapped-row : (h v′ : ℕ) → v′ < page-count → translate s′ h v′ ≡ cond (eqb h g && eqb v′ v) none (translate s h v′)
     unmapped-row = at-one g v none s′
         (translate-empty s′ g v t (same-leaf s c s′ t g (v / 512) (v % 512) private-t (omega arith) (λ h. unfold without-page in refl) (λ h. unfold without-page in refl) others g v lv ∙ hl) here)
         (λ h v′ l ne. same-elsewhere s c s′ t g (v / 512) (v % 512) private-t (omega arith) (λ h. unfold without-page in refl) (λ h. unfold without-page in refl) others h v′ l
         (λ x (y : v′ ≡ v / 512 * 512 + v % 512). ne x (y ∙ div-add-mod' v 512)))
 
   -- map: the tables that are made change nothing
-  module _ (g v : ℕ) (x : Grown) (lg : s .exists g ≡ true) (lv : v < pages) (z : Grew nothing-kept s 3 g (s .root g) v (x .state) (x .last)) where
-    grown-same : (h v′ : ℕ) → v′ < pages → translate (x .state) h v′ ≡ translate s h v′
+  module _ (g v : ℕ) (x : Grown) (lg : s .exists g ≡ true) (lv : v < page-count) (z : Grew nothing-kept s 3 g (s .root g) v (x .state) (x .last)) where
+    grown-same : (h v′ : ℕ) → v′ < page-count → translate (x .state) h v′ ≡ translate s h v′
     unfolding translate leaf
     grown-same h v′ l =
         let eh : x .state .exists h ≡ s .exists h = ap (λ (b : ℕ → Bool). b h) (z .exists) in
@@ -142,7 +142,7 @@ module _ (s : State) (c : Core s) where
       set-here : entry-at s″ (x .last) (v % 512) ≡ to-page f r
       set-here = unfold with-page in set-same (x .state) (z .core) (x .last) g (v / 512) (v % 512) (z .last) (omega arith) (page-entry (x .state .first) f r) (to-page f r) reads
 
-      mapped-row : (h v′ : ℕ) → v′ < pages → translate s″ h v′ ≡ cond (eqb h g && eqb v′ v) (some (f, r)) (translate s h v′)
+      mapped-row : (h v′ : ℕ) → v′ < page-count → translate s″ h v′ ≡ cond (eqb h g && eqb v′ v) (some (f, r)) (translate s h v′)
       mapped-row = at-one g v (some (f, r)) s″
           (translate-at s″ g v (x .last) f r (same-leaf (x .state) (z .core) s″ (x .last) g (v / 512) (v % 512) (z .last) (omega arith) (λ h. unfold with-page in refl) (λ h. unfold with-page in refl) beside g v lv ∙ grown-leaf) set-here)
           (λ h v′ l ne. same-elsewhere (x .state) (z .core) s″ (x .last) g (v / 512) (v % 512) (z .last) (omega arith) (λ h. unfold with-page in refl) (λ h. unfold with-page in refl) beside h v′ l

@@ -4,7 +4,7 @@ use mathlib.Core.Bool.{false}
 use mathlib.Core.Logic.{_⊎_, inl, inr}
 use Prim.Native.Nat.{ℕ, zero, suc, _+_, _*_, _<_, _/_, _%_}
 use native.Mathlib.Omega.{arith}
-use Rattle.model.specs.State.{State, table, draining-table, draining-page, pages}
+use Rattle.model.specs.State.{State, table, draining-table, draining-page, page-count}
 use Rattle.model.specs.Entry.{Entry, empty, to-table, to-page, other, entry}
 use Rattle.model.proofs.Laws.Entry.{is-empty, is-table, is-to-page, page-low, descriptor-empty, descriptor-table, descriptor-page}
 use Rattle.model.specs.Translate.{upper, index, entry-at}
@@ -18,7 +18,7 @@ abbrev Out-of : (s : State) (h x p r : ℕ) (P : ℕ → ℕ → Type 0) → Typ
 Out-of s h x p r P = (h ≡ 0) × ((f : ℕ) × (p ≡ s .first + f) × (entry (s .first) x ≡ to-page f r) × P f r)
 
 -- what the bits say of an entry
-module _ (s : State) (T : (t h q : ℕ) → Type 0) (P : (f r : ℕ) → Type 0) (table-room : (t h q : ℕ) → T t h q → s .first + t < pages) (page-room : (f r : ℕ) → P f r → s .first + f < pages) where
+module _ (s : State) (T : (t h q : ℕ) → Type 0) (P : (f r : ℕ) → Type 0) (table-room : (t h q : ℕ) → T t h q → s .first + t < page-count) (page-room : (f r : ℕ) → P f r → s .first + f < page-count) where
   next-is : (h q x y : ℕ) → Leads-to T P (suc h) q (entry (s .first) x) → descriptor (suc h) x ≡ next y → (t : ℕ) × (y ≡ s .first + t) × T t h q
   next-is h q x y k e = go (entry (s .first) x) refl k
     where

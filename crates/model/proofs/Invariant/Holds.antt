@@ -8,7 +8,7 @@ use lib.Dec.{eqb, ltb, leb}
 use borrow.Author.Tests.{le-leb, leb-true}
 use Rattle.model.proofs.Laws.Base.{and-true, sum-none}
 use Rattle.model.specs.Base.{sum}
-use Rattle.model.specs.State.{State, Kind, monitor, free, table, draining-table, page, draining-page, pages}
+use Rattle.model.specs.State.{State, FrameKind, monitor, free, table, draining-table, page, draining-page, page-count}
 use Rattle.model.specs.Entry.{Entry, entry}
 use Rattle.model.specs.Operations.{Out, refuse, done, check, at-first, started, set-up}
 use Rattle.model.specs.Cache.{Caches, nothing-kept, Access, writing, grants, Reach}
@@ -100,7 +100,7 @@ module _ (P : State → Type 0) (answered : Answers-keep P) (written : Stores-ke
 
 -- set-up: nobody is there
 module _ (n k : ℕ) where
-  pub neither : (f : ℕ) (x : Kind) → at-first n k f ≡ x → eqb 0 (sort x) ≡ false → eqb 1 (sort x) ≡ false → ⊥
+  pub neither : (f : ℕ) (x : FrameKind) → at-first n k f ≡ x → eqb 0 (sort x) ≡ false → eqb 1 (sort x) ≡ false → ⊥
   unfolding at-first
   neither f x e a b = go (ltb f k || leb n f) refl
     where
@@ -124,7 +124,7 @@ module _ (n k : ℕ) where
       go true = refl
       go false = refl
 
-  pub started-core : (b : ℕ) (w : ℕ → ℕ → ℕ) → b / 4096 + n ≤ pages → Core (started n b k w)
+  pub started-core : (b : ℕ) (w : ℕ → ℕ → ℕ) → b / 4096 + n ≤ page-count → Core (started n b k w)
   unfolding started places
   started-core b w l = record {
     room = l;
@@ -142,7 +142,7 @@ module _ (n k : ℕ) where
 pub nothing-ok : (s : State) → Kept s nothing-kept
 nothing-ok s = record { table-ok = λ g h p x a. absurd a; page-ok = λ g v x r a. absurd a; table-now = λ g h p x d a. absurd a; page-now = λ g v x r d a. absurd a }
 
-fits-room : (fits : Bool) (n b k : ℕ) → (fits && leb 16 n && leb n 65536 && eqb (b % 4096) 0 && leb (b + 4096 * n) 0x1000000000000 && ltb k n) ≡ true → b / 4096 + n ≤ pages
+fits-room : (fits : Bool) (n b k : ℕ) → (fits && leb 16 n && leb n 65536 && eqb (b % 4096) 0 && leb (b + 4096 * n) 0x1000000000000 && ltb k n) ≡ true → b / 4096 + n ≤ page-count
 fits-room fits n b k e =
     let a = and-true (fits && leb 16 n && leb n 65536 && eqb (b % 4096) 0 && leb (b + 4096 * n) 0x1000000000000) (ltb k n) e .0 in
     let d = leb-true (b + 4096 * n) 0x1000000000000 (and-true (fits && leb 16 n && leb n 65536 && eqb (b % 4096) 0) (leb (b + 4096 * n) 0x1000000000000) a .1) in

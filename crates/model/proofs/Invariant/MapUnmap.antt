@@ -8,7 +8,7 @@ use native.Mathlib.Omega.{arith}
 use lib.Dec.{eqb, ltb}
 use borrow.Author.Tests.{eqb-true, ltb-true, leb-true}
 use Rattle.model.proofs.Laws.Base.{bool?, and-true, not-true}
-use Rattle.model.specs.State.{State, table, pages, free-frames}
+use Rattle.model.specs.State.{State, table, page-count, free-frames}
 use Rattle.model.specs.Entry.{Entry, empty, to-table, to-page, other}
 use Rattle.model.specs.Translate.{entry-at, Page, page-in, leaf, translate, is-some, mapped, missing}
 use Rattle.model.specs.Changes.{Choice, Grown, grow, with-mapping, without-page, without-mapping}
@@ -21,7 +21,7 @@ use Rattle.model.proofs.Invariant.Grow.{Grew, grow-grew}
 use Rattle.model.proofs.Invariant.Answer.{Good, then-done, checked, may-is}
 
 -- what the tests on the arguments say
-pub address-low : (a : ℕ) → page-address a ≡ true → a / 4096 < pages
+pub address-low : (a : ℕ) → page-address a ≡ true → a / 4096 < page-count
 address-low a e = let l = ltb-true a 0x1000000000000 (and-true (eqb (a % 4096) 0) (ltb a 0x1000000000000) e .1) in omega arith
 
 pub rights-low : (r : ℕ) → is-rights r ≡ true → r < 8
@@ -56,7 +56,7 @@ empty-is s g v u c a e = go (entry-at s u (v % 512)) (c .tables u g 0 (v / 512) 
 
 module _ (s : State) (c : Core s) where
   -- what map finds when the tables are there: the state before the entry is written
-  module _ (k : Caches) (q : Kept s k) (g v : ℕ) (pick : ℕ → ℕ) (lg : s .exists g ≡ true) (lv : v < pages) (ch : Choice s pick) (room : missing s g v ≤ free-frames s) where
+  module _ (k : Caches) (q : Kept s k) (g v : ℕ) (pick : ℕ → ℕ) (lg : s .exists g ≡ true) (lv : v < page-count) (ch : Choice s pick) (room : missing s g v ≤ free-frames s) where
     pub grown-for : Grew k s 3 g (s .root g) v (grow 3 s g (s .root g) v pick .state) (grow 3 s g (s .root g) v pick .last)
     grown-for = grow-grew k 3 s c g (s .root g) v pick ch room (root-serves (s .kind (s .root g)) g v (c .roots g lg) lv) q
 

@@ -19,7 +19,7 @@ use Rattle.model.proofs.Invariant.Holds.{Holds}
 -- nothing is kept for g but that its root is at x
 record Bare (k : Caches) (g x : ℕ) : Type 0 where
   tables : (h p y : ℕ) → k .table-kept g h p y → y ≡ x
-  pages : (v y r : ℕ) → k .page-kept g v y r → ⊥
+  page-count : (v y r : ℕ) → k .page-kept g v y r → ⊥
 
 module _ (s : State) (k : Caches) (g : ℕ) (b : Bare k g (s .first + s .root g)) (zero-root : (i : ℕ) → i < 512 → s .word (s .root g) i ≡ 0) where
   at-root : (h t i : ℕ) (d : Descriptor) → s .first + s .root g ≡ s .first + t → i < 512 → descriptor h (s .word t i) ≡ d → invalid ≡ d
@@ -33,7 +33,7 @@ module _ (s : State) (k : Caches) (g : ℕ) (b : Bare k g (s .first + s .root g)
   only-root (from-word {h} {p} {x} {y} a t i e l m d) = let z = only-root a in let q = at-root (suc h) t i (next y) (sym z ∙ e) m d in let w : _≡_ {A = ℕ} 0 1 = cc in absurd (omega arith)
 
   no-page : {v x r : ℕ} → Translation s k g v x r → ⊥
-  no-page {v} {x} {r} (kept a) = b .pages v x r a
+  no-page {v} {x} {r} (kept a) = b .page-count v x r a
   no-page {v} (read-off {x} {r} h y t p a e l d o) = let z = only-root a in let q = at-root h t (index h v) (output p r) (sym z ∙ e) (omega arith) d in let w : _≡_ {A = ℕ} 0 1 = cc in omega arith
 
   reach-page : (w : Access) (a : ℕ) → Reach s k g w a → ⊥
@@ -42,13 +42,13 @@ module _ (s : State) (k : Caches) (g : ℕ) (b : Bare k g (s .first + s .root g)
 
   bare-grown : Bare (grown s k) g (s .first + s .root g)
   unfolding grown
-  bare-grown = record { tables = λ h p y a. only-root a; pages = λ v y r a. no-page a }
+  bare-grown = record { tables = λ h p y a. only-root a; page-count = λ v y r a. no-page a }
 
 -- nobody was there, and nothing is dirty: nothing is kept
 forgotten : (s : State) (k : Caches) → Core s → Kept s k → (g x : ℕ) → s .exists g ≡ false → s .dirty g ≡ false → Bare k g x
 forgotten s k c q g x none clean = record {
   tables = λ h p y a. let b = q .table-now g h p y clean a in absurd (true≢false (sym (c .table-exists (b .0) g h p (b .2)) ∙ none));
-  pages = λ v y r a. let b = q .page-now g v y r clean a in let m = b .2 in absurd (true≢false (sym (c .table-exists (m .0) g 0 (v / 512) (m .1)) ∙ none));
+  page-count = λ v y r a. let b = q .page-now g v y r clean a in let m = b .2 in absurd (true≢false (sym (c .table-exists (m .0) g 0 (v / 512) (m .1)) ∙ none));
 }
 
 created-bare : (s : State) (k : Caches) → Core s → Kept s k → (g : ℕ) (pick : ℕ → ℕ) → Then (λ s′. (w : Access) (a : ℕ) → Reach s′ (grown s′ k) g w a → ⊥) (create s g pick)

@@ -7,7 +7,7 @@ use native.Mathlib.Omega.{arith}
 use Rattle.model.proofs.Laws.Base.{eq?}
 use Rattle.model.proofs.Laws.Base.{upd-not, upd2-same, upd2-at, upd2-other}
 use Rattle.model.specs.Base.{upd2}
-use Rattle.model.specs.State.{State, table, draining-table, page, pages}
+use Rattle.model.specs.State.{State, table, draining-table, page, page-count}
 use Rattle.model.specs.Entry.{Entry, empty, to-page, entry, page-entry}
 use Rattle.model.proofs.Laws.Entry.{entry-empty, entry-page}
 use Rattle.model.specs.Translate.{entry-at}
@@ -18,7 +18,7 @@ use Rattle.model.specs.Invariant.{May, Fits, Stale, hit, places, Core, K
 use Rattle.model.proofs.Invariant.Core.{low, in-room}
 use Rattle.model.proofs.Invariant.Counts.{hit-page, hit-else, hit-empty, hit-other, places-point}
 
-pub may-room : (s : State) → Core s → (g f r : ℕ) → May s g f r → s .first + f < pages
+pub may-room : (s : State) → Core s → (g f r : ℕ) → May s g f r → s .first + f < page-count
 may-room s c g f r (inl a) = in-room s c f (page g) a refl
 may-room s c g f r (inr a) = in-room s c f (page (a .0)) (a .1) refl
 

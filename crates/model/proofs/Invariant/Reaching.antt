@@ -7,7 +7,7 @@ use native.Mathlib.Omega.{arith}
 use lib.Dec.{eqb}
 use borrow.Author.Tests.{eqb-false, ne-eqb}
 use native.Mathlib.Nat.{div-add-mod'}
-use Rattle.model.specs.State.{State, table, pages}
+use Rattle.model.specs.State.{State, table, page-count}
 use Rattle.model.specs.Entry.{Entry, empty, to-table, to-page, other}
 use Rattle.model.proofs.Laws.Entry.{is-table, is-to-page, page-low, descriptor-table, descriptor-page}
 use Rattle.model.specs.Translate.{upper, index, entry-at, into, descend, translate}
@@ -42,11 +42,11 @@ module _ (s : State) (c : Core s) (k : Caches) (g v : ℕ) where
       go ih (to-page f r) q e = let z : _≡_ {A = ℕ} 0 1 = cc in absurd (omega arith)
       go ih (other y) q e = let z : _≡_ {A = ℕ} 0 1 = cc in absurd (omega arith)
 
-  root-table : s .exists g ≡ true → v < pages → Table s k g 3 (upper 4 v) (s .first + s .root g)
+  root-table : s .exists g ≡ true → v < page-count → Table s k g 3 (upper 4 v) (s .first + s .root g)
   unfolding upper
   root-table e l = let z : v / 512 / 512 / 512 / 512 ≡ 0 = omega arith in rw z (from-root e refl)
 
-  pub found : (f r : ℕ) → v < pages → translate s g v ≡ some (f, r) → Translation s k g v (s .first + f) r
+  pub found : (f r : ℕ) → v < page-count → translate s g v ≡ some (f, r) → Translation s k g v (s .first + f) r
   unfolding upper inside
   found f r l e =
       let w = translate-from s g v f r e in
@@ -59,7 +59,7 @@ module _ (s : State) (c : Core s) (k : Caches) (g v : ℕ) where
       let x = way-down 3 (s .root g) (root-serves (s .kind (s .root g)) g v (c .roots g (lf .0)) l) (root-table (lf .0) l) t (lf .1) in
       read-off 0 (s .first + t) t (s .first + f) x refl (low s c t (table g 0 (v / 512)) kt refl) d refl
 
-pub reaches-mapped : (m : Machine) → Core (m .state) → (g v f r : ℕ) (w : Access) (o : ℕ) → v < pages → translate (m .state) g v ≡ some (f, r) → grants r w ≡ true → o < 4096 →
+pub reaches-mapped : (m : Machine) → Core (m .state) → (g v f r : ℕ) (w : Access) (o : ℕ) → v < page-count → translate (m .state) g v ≡ some (f, r) → grants r w ≡ true → o < 4096 →
     Reaches m g w ((m .state .first + f) * 4096 + o)
 unfolding Reach
 reaches-mapped m c g v f r w o l e a b =

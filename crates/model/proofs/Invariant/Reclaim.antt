@@ -9,7 +9,7 @@ use borrow.Author.Tests.{eq-eqb, lt-ltb, le-leb}
 use Rattle.model.proofs.Laws.Base.{eq?, lt?, bool?, sum-cong, sum-none}
 use Rattle.model.proofs.Laws.Base.{upd-same, upd2-same, upd2-other}
 use Rattle.model.specs.Base.{upd2}
-use Rattle.model.specs.State.{State, free, page, guests, is-guest, pages, total}
+use Rattle.model.specs.State.{State, free, page, guests, is-guest, page-count, total}
 use Rattle.model.specs.Translate.{leaf, translate}
 use Rattle.model.specs.Changes.{becomes, without-page, released, clean}
 use Rattle.model.specs.Operations.{Out, done, check, unmap, unshare, take, invalidated}
@@ -22,7 +22,7 @@ use Rattle.model.proofs.Invariant.MapUnmap.{without-is}
 use Rattle.model.proofs.Invariant.Answer.{Then, then-is, then-more}
 use Rattle.model.proofs.Invariant.Holds.{answer-good, nothing-ok}
 use Rattle.model.proofs.Invariant.Linked.{Linked, answer-linked}
-use Rattle.model.proofs.Invariant.Hung.{mapped-somewhere}
+use Rattle.model.proofs.Invariant.LinkedAlways.{mapped-somewhere}
 
 pub answer-core : (s : State) (c : Core s) (o : Operation) → Chooses s o → Then Core (answer s o)
 answer-core s c o ch = then-more (answer s o) (λ s x. x .core) (answer-good s c nothing-kept (nothing-ok s) o ch)
@@ -33,7 +33,7 @@ asked-then (ask o s′ p ch e x) y = ask o s′ p ch e (asked-then x y)
 
 -- what is answered 0
 module _ (s : State) (c : Core s) where
-  unmap-granted : (h v t f r : ℕ) → v < pages → s .exists h ≡ true → leaf s h v ≡ some t → translate s h v ≡ some (f, r) → answer s (Unmap h (v * 4096)) ≡ done (without-page s t (v % 512) f h)
+  unmap-granted : (h v t f r : ℕ) → v < page-count → s .exists h ≡ true → leaf s h v ≡ some t → translate s h v ≡ some (f, r) → answer s (Unmap h (v * 4096)) ≡ done (without-page s t (v % 512) f h)
   unfolding answer unmap check
   unmap-granted h v t f r l e a b =
       let m : v * 4096 % 4096 ≡ 0 = omega arith in

@@ -7,11 +7,11 @@ use mathlib.Core.Option.{Option, none, some}
 use Prim.Native.Nat.{ℕ, zero, suc, _+_, _*_, _<_, _/_, _%_, _^_}
 use native.Mathlib.Omega.{arith}
 use native.Mathlib.Nat.{div-add-mod'}
-use Rattle.walk_descriptor.specs.declared.Kind.{Kind}
-use Rattle.walk_descriptor.specs.declared.Kind.the-variants.{Permission}
-use Rattle.walk_descriptor.specs.declared.Kind.the-variants.{Translation as Translation-fault}
+use Rattle.walk_descriptor.specs.declared.FaultKind.{FaultKind}
+use Rattle.walk_descriptor.specs.declared.FaultKind.the-variants.{Permission}
+use Rattle.walk_descriptor.specs.declared.FaultKind.the-variants.{Translation as Translation-fault}
 use Rattle.walk.specs.Both.{reached, failed, stage-2}
-use Rattle.model.specs.State.{State, table, pages}
+use Rattle.model.specs.State.{State, table, page-count}
 use Rattle.model.specs.Entry.{Entry, empty, to-table, to-page, other}
 use Rattle.model.proofs.Laws.Entry.{is-table, is-to-page, page-low, descriptor-table, descriptor-page}
 use Rattle.model.specs.Translate.{upper, index, entry-at, descend, Page, translate, missing}
@@ -44,7 +44,7 @@ module _ (s : State) (c : Core s) (k : Caches) (g v : ℕ) where
       go ih (to-page f r) q = let z : _≡_ {A = ℕ} 0 1 = cc in absurd (omega arith)
       go ih (other y) q = let z : _≡_ {A = ℕ} 0 1 = cc in absurd (omega arith)
 
-  pub seen : (f r : ℕ) → v < pages → translate s g v ≡ some (f, r) → Translation s k g v (s .first + f) r
+  pub seen : (f r : ℕ) → v < page-count → translate s g v ≡ some (f, r) → Translation s k g v (s .first + f) r
   unfolding upper inside
   seen f r l e =
       let w = translate-from s g v f r e in
@@ -69,7 +69,7 @@ reached-is b o k w (some x) p e = let z = go (grants (x .1) w) refl e in (x .0, 
     go true q e = (q, cc)
     go false q e = let z : _≡_ {A = ℕ} 0 1 = cc in absurd (omega arith)
 
-pub failed-is : (b o k : ℕ) (w : Access) (x : Option Page) (kind : Kind) (level : ℕ) → comes b o k w x ≡ failed kind level → (kind ≡ Translation-fault) ⊎ ((kind ≡ Permission) × (level ≡ 3))
+pub failed-is : (b o k : ℕ) (w : Access) (x : Option Page) (kind : FaultKind) (level : ℕ) → comes b o k w x ≡ failed kind level → (kind ≡ Translation-fault) ⊎ ((kind ≡ Permission) × (level ≡ 3))
 failed-is b o k w none kind level e = inl (cc)
 failed-is b o k w (some x) kind level e = go (grants (x .1) w) e
   where
@@ -83,7 +83,7 @@ module _ (s : State) (c : Core s) (b : ℕ) (m : List ℕ) (x : Image s b m) (g 
   unfolding says
   walk-reached p q = reached-is b (a % 4096) (missing s g (a / 4096)) w (translate s g (a / 4096)) p (sym (walk-ends s c b m x g a w e l .result) ∙ q)
 
-  pub walk-failed : (kind : Kind) (level : ℕ) → stage-2 m b (b + 4096 * s .root g) (access w) a .result ≡ failed kind level → (kind ≡ Translation-fault) ⊎ ((kind ≡ Permission) × (level ≡ 3))
+  pub walk-failed : (kind : FaultKind) (level : ℕ) → stage-2 m b (b + 4096 * s .root g) (access w) a .result ≡ failed kind level → (kind ≡ Translation-fault) ⊎ ((kind ≡ Permission) × (level ≡ 3))
   unfolding says
   walk-failed kind level q = failed-is b (a % 4096) (missing s g (a / 4096)) w (translate s g (a / 4096)) kind level (sym (walk-ends s c b m x g a w e l .result) ∙ q)
 

@@ -7,13 +7,13 @@ use Prim.Native.Nat.{ℕ, zero, suc, _+_, _*_, _<_, _/_, _%_}
 use native.Mathlib.Omega.{arith}
 use native.Mathlib.Nat.{div-add-mod'}
 use Rattle.model.proofs.Laws.Base.{bool?}
-use Rattle.model.specs.State.{State, Kind, table, pages}
+use Rattle.model.specs.State.{State, FrameKind, table, page-count}
 use Rattle.model.specs.Entry.{Entry, empty, to-table, to-page, other}
 use Rattle.model.specs.Translate.{upper, index, entry-at, into, descend, Page, page-in, page-at, leaf, translate}
 use Rattle.model.specs.Invariant.{Core}
 
 -- a page of the 2^36: the root serves it
-pub root-serves : (x : Kind) (g v : ℕ) → x ≡ table g 3 0 → v < pages → x ≡ table g 3 (upper 4 v)
+pub root-serves : (x : FrameKind) (g v : ℕ) → x ≡ table g 3 0 → v < page-count → x ≡ table g 3 (upper 4 v)
 unfolding upper
 root-serves x g v h l = let z : v / 512 / 512 / 512 / 512 ≡ 0 = omega arith in rw z h
 
@@ -63,7 +63,7 @@ module _ (s : State) (c : Core s) where
       absent e = cc
 
   -- the table at which the way to g's page v ends
-  pub leaf-kind : (g v t : ℕ) → v < pages → leaf s g v ≡ some t → s .kind t ≡ table g 0 (v / 512)
+  pub leaf-kind : (g v t : ℕ) → v < page-count → leaf s g v ≡ some t → s .kind t ≡ table g 0 (v / 512)
   leaf-kind g v t l e =
       let a = leaf-from g v t e in
       descend-kind g 3 (s .root g) v (root-serves (s .kind (s .root g)) g v (c .roots g (a .0)) l) t (a .1)
@@ -102,14 +102,14 @@ module _ (s : State) (c : Core s) (s′ : State) (t g p i : ℕ) (ht : s .kind t
   above : (t′ g′ h p′ : ℕ) → s .kind t′ ≡ table g′ (suc h) p′ → (j : ℕ) → entry-at s′ t′ j ≡ entry-at s t′ j
   above t′ g′ h p′ a j = others t′ j (λ (e : t′ ≡ t) b. let z : suc h ≡ 0 = cc in omega arith)
 
-  pub same-leaf : (h v : ℕ) → v < pages → leaf s′ h v ≡ leaf s h v
+  pub same-leaf : (h v : ℕ) → v < page-count → leaf s′ h v ≡ leaf s h v
   unfolding leaf
   same-leaf h v l = rw (es h, rs h) (elim (bool? (s .exists h)) [
     | inl e ↦ rw e (descend-same s c s′ above h 3 (s .root h) v (root-serves (s .kind (s .root h)) h v (c .roots h e) l))
     | inr e ↦ rw e
   ])
 
-  pub same-elsewhere : (h v : ℕ) → v < pages → (h ≡ g → v ≡ p * 512 + i → ⊥) → translate s′ h v ≡ translate s h v
+  pub same-elsewhere : (h v : ℕ) → v < page-count → (h ≡ g → v ≡ p * 512 + i → ⊥) → translate s′ h v ≡ translate s h v
   unfolding translate
   same-elsewhere h v l ne = rw (same-leaf h v l) (go (leaf s h v) refl)
     where

@@ -7,7 +7,7 @@ use borrow.Author.Tests.{leb-true}
 use Rattle.model.proofs.Laws.Base.{eq?}
 use Rattle.model.specs.Base.{upd, upd2}
 use Rattle.model.proofs.Laws.Base.{upd-at, upd-other, upd2-at, upd2-other}
-use Rattle.model.specs.State.{State, free, table, pages, put-byte, free-frames}
+use Rattle.model.specs.State.{State, free, table, page-count, put-byte, free-frames}
 use Rattle.model.specs.Entry.{table-entry, page-entry}
 use Rattle.model.specs.Translate.{upper, index, translate, missing-from, missing}
 use Rattle.model.specs.Changes.{Choice, zeros, becomes, with-root, with-table, grow, with-page, with-mapping, without-page, without-guest, clean}
@@ -46,11 +46,11 @@ module _ (w : ℕ → ℕ → ℕ) (h : Wide w) where
     ]
   ]
 
-table-wide : (first t : ℕ) → first + t < pages → table-entry first t < 2 ^ 64
+table-wide : (first t : ℕ) → first + t < page-count → table-entry first t < 2 ^ 64
 unfolding table-entry
 table-wide first t l = omega arith
 
-page-wide : (first f r : ℕ) → first + f < pages → page-entry first f r < 2 ^ 64
+page-wide : (first f r : ℕ) → first + f < page-count → page-entry first f r < 2 ^ 64
 unfolding page-entry
 page-wide first f r l = omega arith
 

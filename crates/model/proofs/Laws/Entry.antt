@@ -6,7 +6,7 @@ use native.Mathlib.Omega.{arith}
 use lib.Dec.{eqb}
 use borrow.Author.Tests.{eqb-true, eq-eqb, ne-eqb}
 use Rattle.model.proofs.Laws.Base.{bool?}
-use Rattle.model.specs.State.{pages}
+use Rattle.model.specs.State.{page-count}
 use Rattle.model.specs.Entry.{Entry, empty, to-table, to-page, other, entry, table-entry, page-entry, rights-of}
 use Rattle.model.specs.Cache.{invalid, next, output, descriptor}
 
@@ -20,10 +20,10 @@ pub record Bits (n F r w x : ℕ) : Type 0 where
   pub write : n / 128 % 2 ≡ w
   pub never : n / 0x40000000000000 % 2 ≡ x
 
-bits : (F r w x : ℕ) → F < pages → r < 2 → w < 2 → x < 2 → Bits (F * 4096 + 0x73f + 64 * r + 128 * w + 0x40000000000000 * x) F r w x
+bits : (F r w x : ℕ) → F < page-count → r < 2 → w < 2 → x < 2 → Bits (F * 4096 + 0x73f + 64 * r + 128 * w + 0x40000000000000 * x) F r w x
 bits F r w x hF hr hw hx = record { three = omega arith; page = omega arith; low = omega arith; flag = omega arith; read = omega arith; write = omega arith; never = omega arith }
 
-pub page-bits : (first f r : ℕ) → first + f < pages → Bits (page-entry first f r) (first + f) (r % 2) (r / 2 % 2) (1 - r / 4 % 2)
+pub page-bits : (first f r : ℕ) → first + f < page-count → Bits (page-entry first f r) (first + f) (r % 2) (r / 2 % 2) (1 - r / 4 % 2)
 unfolding page-entry
 page-bits first f r l = bits (first + f) (r % 2) (r / 2 % 2) (1 - r / 4 % 2) l (omega arith) (omega arith) (omega arith)
 
@@ -63,7 +63,7 @@ is-table first x t e = sym (entry-number first x) ∙ ap (number first) e
 pub is-to-page : (first x f r : ℕ) → entry first x ≡ to-page f r → x ≡ page-entry first f r
 is-to-page first x f r e = sym (entry-number first x) ∙ ap (number first) e
 
-module _ (first t : ℕ) (l : first + t < pages) where
+module _ (first t : ℕ) (l : first + t < page-count) where
   pub table-page : table-entry first t / 4096 % 0x1000000000 ≡ first + t
   unfolding table-entry
   table-page = omega arith
@@ -98,7 +98,7 @@ sum-bits r h =
     join : (r x y z p q : ℕ) → z ≡ q → y + 2 * q ≡ p → x + 2 * p ≡ r → x + 2 * y + 4 * z ≡ r
     join r x y z p q a b d = omega arith
 
-module _ (first f r : ℕ) (l : first + f < pages) (hr : r < 8) where
+module _ (first f r : ℕ) (l : first + f < page-count) (hr : r < 8) where
   page-rights : rights-of (page-entry first f r) ≡ r
   unfolding rights-of
   page-rights = let y = page-bits first f r l in rw (y .read, y .write, y .never) (sum-bits r hr)

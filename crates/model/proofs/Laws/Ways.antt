@@ -6,7 +6,7 @@ use mathlib.Core.Option.{none, some}
 use Prim.Native.Nat.{ℕ, suc, _+_, _*_, _<_, _/_, _%_}
 use native.Mathlib.Omega.{arith}
 use native.Mathlib.Nat.{div-add-mod'}
-use Rattle.model.specs.State.{State, table, page, pages}
+use Rattle.model.specs.State.{State, table, page, page-count}
 use Rattle.model.specs.Entry.{Entry, empty, to-table, to-page, other, entry, table-entry}
 use Rattle.model.proofs.Laws.Entry.{entry-empty, is-empty, is-table, is-to-page, page-bits}
 use Rattle.model.specs.Translate.{At, upper, index, entry-at, descend, missing-from}
@@ -16,7 +16,7 @@ use Rattle.model.proofs.Invariant.Core.{low}
 use Rattle.model.proofs.Invariant.Pages.{may-room}
 use Rattle.model.proofs.Invariant.Way.{root-serves}
 
-pub at-root : (s : State) → Core s → (g v : ℕ) → s .exists g ≡ true → v < pages → At s g 3 v (s .root g)
+pub at-root : (s : State) → Core s → (g v : ℕ) → s .exists g ≡ true → v < page-count → At s g 3 v (s .root g)
 at-root s c g v e l = root-serves (s .kind (s .root g)) g v (c .roots g e) l
 
 -- one step down, and the end, of the way and of what is missing on it

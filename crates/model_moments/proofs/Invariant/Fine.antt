@@ -12,7 +12,7 @@ use Rattle.model.specs.Changes.{Choice, zeros, becomes}
 use Rattle.model.specs.Operations.{Out, refuse, done, check, create, give, map, unmap}
 use Rattle.model.specs.Cache.{Caches, grown}
 use Rattle.model.specs.Machine.{Machine, SetUp, Operation, Create, Give, Take, Map, Unmap, Share, Unshare, Destroy, Invalidated, answer, Chooses, keeps, stores}
-use Rattle.model_moments.specs.Moments.{Store, clear, stores-of, store, Safe, during, settle-finely, FineStep, calls-finely, stores-byte, FineRun, fine-stop, fine-then}
+use Rattle.model_moments.specs.Moments.{Store, clear, stores-of, store, Safe, during, settle-finely, Fine-step, calls-finely, stores-byte, Fine-run, fine-stop, fine-then}
 use Rattle.model.proofs.Invariant.Kinds.{free-is}
 use Rattle.model.specs.Invariant.{Core, Kept}
 use Rattle.model.proofs.Invariant.Choice.{first-free}
@@ -68,7 +68,7 @@ module _ (z : State) (c : Core z) (k : Caches) (q : Kept z k) where
   answer-finely (Destroy g) ch = unfold stores-of during in answer-good z c k q (Destroy g) ch
   answer-finely (Invalidated g) ch = unfold stores-of during in answer-good z c k q (Invalidated g) ch
 
-fine-step-holds : {m m′ : Machine} → FineStep m m′ → Holds m → Holds m′
+fine-step-holds : {m m′ : Machine} → Fine-step m m′ → Holds m → Holds m′
 fine-step-holds (calls-finely {m} o ch) h = go (answer (m .state) o) (answer-finely (m .state) (h .core) (m .caches) (h .kept) o ch)
   where
     go : (x : Out) → Good (keeps (during (m .state) (m .caches) (m .state .word) (stores-of (m .state) o)) o) x → Holds (settle-finely m o x)
@@ -76,9 +76,9 @@ fine-step-holds (calls-finely {m} o ch) h = go (answer (m .state) o) (answer-fin
     go (done s) (then-done y) = unfold settle-finely in record { core = y .core; kept = grown-kept s (keeps (during (m .state) (m .caches) (m .state .word) (stores-of (m .state) o)) o) (y .core) (y .kept) }
 fine-step-holds (stores-byte g f o x e l n b a) h = step-holds (stores g f o x e l n b a) h
 
-fine-run-holds : {m z : Machine} → FineRun m z → Holds m → Holds z
+fine-run-holds : {m z : Machine} → Fine-run m z → Holds m → Holds z
 fine-run-holds fine-stop h = h
 fine-run-holds (fine-then x y) h = fine-run-holds y (fine-step-holds x h)
 
-pub finely : {m z : Machine} → SetUp m → FineRun m z → Holds z
+pub finely : {m z : Machine} → SetUp m → Fine-run m z → Holds z
 finely x r = fine-run-holds r (set-up-holds x)

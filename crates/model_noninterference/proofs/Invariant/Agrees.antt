@@ -7,7 +7,7 @@ use Prim.Native.Nat.{ℕ, _<_, _/_, _%_}
 use Rattle.model.proofs.Laws.Base.{eq?}
 use Rattle.model.specs.Base.{upd, upd2}
 use Rattle.model.proofs.Laws.Base.{upd-at, upd-other, upd2-at, upd2-other}
-use Rattle.model.specs.State.{Kind, byte-of, put-byte, tabled}
+use Rattle.model.specs.State.{FrameKind, byte-of, put-byte, tabled}
 use Rattle.model.specs.Changes.{zeros}
 use Rattle.model_noninterference.specs.TwoRunsTerms.{reads}
 use Rattle.model.proofs.Invariant.Bytes.{byte-put-same, byte-put-other}
@@ -16,9 +16,9 @@ use Rattle.model.proofs.Invariant.Bytes.{byte-put-same, byte-put-other}
 abbrev pub Same-frame : (a b : ℕ → ℕ) → Type 0
 Same-frame a b = (j k : ℕ) → j < 512 → k < 8 → byte-of k (a j) ≡ byte-of k (b j)
 
-pub record Agrees (g : ℕ) (kind : ℕ → Kind) (shared a b : ℕ → ℕ → ℕ) : Type 0 where
+pub record Agrees (g : ℕ) (kind : ℕ → FrameKind) (shared a b : ℕ → ℕ → ℕ) : Type 0 where
   pub tables : (t : ℕ) → tabled (kind t) ≡ true → (i : ℕ) → b t i ≡ a t i
-  pub pages : (f : ℕ) → reads g (kind f) (shared f g) ≡ true → Same-frame (a f) (b f)
+  pub page-count : (f : ℕ) → reads g (kind f) (shared f g) ≡ true → Same-frame (a f) (b f)
 
 -- one change in both: what can be seen of a word at a place stays the same
 upd2-both : {A : Type 0} (B : ℕ → A) (a b : ℕ → ℕ → ℕ) (t i x u j : ℕ) → B (a u j) ≡ B (b u j) → B (upd2 a t i x u j) ≡ B (upd2 b t i x u j)
@@ -36,28 +36,28 @@ zeros-both B a b t u j e = elim (eq? u t) [
   | inr p ↦ rw (upd-other a t zeros u p, upd-other b t zeros u p) (e p)
 ]
 
-module _ (g : ℕ) (kind : ℕ → Kind) (shared a b : ℕ → ℕ → ℕ) (m : Agrees g kind shared a b) where
+module _ (g : ℕ) (kind : ℕ → FrameKind) (shared a b : ℕ → ℕ → ℕ) (m : Agrees g kind shared a b) where
   -- the same word is written in both
   pub agrees-set : (t i x : ℕ) → Agrees g kind shared (upd2 a t i x) (upd2 b t i x)
   agrees-set t i x = record {
     tables = λ u e j. upd2-both (λ y. y) b a t i x u j (m .tables u e j);
-    pages = λ f e j k l n. upd2-both (byte-of k) a b t i x f j (m .pages f e j k l n);
+    page-count = λ f e j k l n. upd2-both (byte-of k) a b t i x f j (m .page-count f e j k l n);
   }
 
   -- frame t is cleared in both, and becomes anything
-  pub agrees-zero : (t : ℕ) (kind′ : ℕ → Kind) (shared′ : ℕ → ℕ → ℕ) → ((u : ℕ) → (u ≡ t → ⊥) → kind′ u ≡ kind u) → ((u : ℕ) → (u ≡ t → ⊥) → shared′ u g ≡ shared u g) →
+  pub agrees-zero : (t : ℕ) (kind′ : ℕ → FrameKind) (shared′ : ℕ → ℕ → ℕ) → ((u : ℕ) → (u ≡ t → ⊥) → kind′ u ≡ kind u) → ((u : ℕ) → (u ≡ t → ⊥) → shared′ u g ≡ shared u g) →
       Agrees g kind′ shared′ (upd a t zeros) (upd b t zeros)
   agrees-zero t kind′ shared′ ke se = record {
     tables = λ u e j. zeros-both (λ y. y) b a t u j (λ ne. m .tables u (rw (ke u ne) at e) j);
-    pages = λ f e j k l n. zeros-both (byte-of k) a b t f j (λ ne. m .pages f (rw (ke f ne, se f ne) at e) j k l n);
+    page-count = λ f e j k l n. zeros-both (byte-of k) a b t f j (λ ne. m .page-count f (rw (ke f ne, se f ne) at e) j k l n);
   }
 
   -- no more tables, and nothing more is shown but what is the same in both
-  pub agrees-less : (kind′ : ℕ → Kind) (shared′ : ℕ → ℕ → ℕ) → ((t : ℕ) → tabled (kind′ t) ≡ true → tabled (kind t) ≡ true) →
+  pub agrees-less : (kind′ : ℕ → FrameKind) (shared′ : ℕ → ℕ → ℕ) → ((t : ℕ) → tabled (kind′ t) ≡ true → tabled (kind t) ≡ true) →
       ((f : ℕ) → reads g (kind′ f) (shared′ f g) ≡ true → (reads g (kind f) (shared f g) ≡ true) ⊎ Same-frame (a f) (b f)) → Agrees g kind′ shared′ a b
   agrees-less kind′ shared′ ts ps = record {
     tables = λ t e. m .tables t (ts t e);
-    pages = λ f e. elim (ps f e) [ inl x ↦ m .pages f x | inr x ↦ x ];
+    page-count = λ f e. elim (ps f e) [ inl x ↦ m .page-count f x | inr x ↦ x ];
   }
 
   -- a byte is stored in both
@@ -67,13 +67,13 @@ module _ (g : ℕ) (kind : ℕ → Kind) (shared a b : ℕ → ℕ → ℕ) (m :
     tables = λ t e i.
         let ne : t ≡ f → ⊥ = λ (p : t ≡ f). true≢false (sym e ∙ ap (λ (y : ℕ). tabled (kind y)) p ∙ no-table) in
         rw (upd2-other b f (o / 8) (put-byte (o % 8) (b f (o / 8)) x) t i (λ p q. ne p), upd2-other a f (o / 8) (put-byte (o % 8) (a f (o / 8)) x) t i (λ p q. ne p)) (m .tables t e i);
-    pages = λ u e j k l n. elim (eq? u f) [
-      | inr p ↦ rw (upd2-other a f (o / 8) (put-byte (o % 8) (a f (o / 8)) x) u j (λ y z. p y), upd2-other b f (o / 8) (put-byte (o % 8) (b f (o / 8)) x) u j (λ y z. p y)) (m .pages u e j k l n)
+    page-count = λ u e j k l n. elim (eq? u f) [
+      | inr p ↦ rw (upd2-other a f (o / 8) (put-byte (o % 8) (a f (o / 8)) x) u j (λ y z. p y), upd2-other b f (o / 8) (put-byte (o % 8) (b f (o / 8)) x) u j (λ y z. p y)) (m .page-count u e j k l n)
       | inl p ↦ elim (eq? j (o / 8)) [
-        | inr q ↦ rw (upd2-other a f (o / 8) (put-byte (o % 8) (a f (o / 8)) x) u j (λ y z. q z), upd2-other b f (o / 8) (put-byte (o % 8) (b f (o / 8)) x) u j (λ y z. q z)) (m .pages u e j k l n)
+        | inr q ↦ rw (upd2-other a f (o / 8) (put-byte (o % 8) (a f (o / 8)) x) u j (λ y z. q z), upd2-other b f (o / 8) (put-byte (o % 8) (b f (o / 8)) x) u j (λ y z. q z)) (m .page-count u e j k l n)
         | inl q ↦ rw (upd2-at a f (o / 8) (put-byte (o % 8) (a f (o / 8)) x) u j p q, upd2-at b f (o / 8) (put-byte (o % 8) (b f (o / 8)) x) u j p q) (elim (eq? k (o % 8)) [
           | inl d ↦ rw (d, byte-put-same (o % 8) (a f (o / 8)) x lx, byte-put-same (o % 8) (b f (o / 8)) x lx)
-          | inr d ↦ rw (byte-put-other k (o % 8) (a f (o / 8)) x lx d, byte-put-other k (o % 8) (b f (o / 8)) x lx d) (m .pages f (rw p at e) (o / 8) k (rw q at l) n)
+          | inr d ↦ rw (byte-put-other k (o % 8) (a f (o / 8)) x lx d, byte-put-other k (o % 8) (b f (o / 8)) x lx d) (m .page-count f (rw p at e) (o / 8) k (rw q at l) n)
         ])
       ]
     ];
@@ -83,9 +83,9 @@ module _ (g : ℕ) (kind : ℕ → Kind) (shared a b : ℕ → ℕ → ℕ) (m :
   pub agrees-apart : (a′ : ℕ → ℕ → ℕ) (f : ℕ) → ((u i : ℕ) → (u ≡ f → ⊥) → a′ u i ≡ a u i) → tabled (kind f) ≡ false → reads g (kind f) (shared f g) ≡ false → Agrees g kind shared a′ b
   agrees-apart a′ f same no-table hid = record {
     tables = λ t e i. m .tables t e i ∙ sym (same t i (λ (p : t ≡ f). true≢false (sym e ∙ ap (λ (y : ℕ). tabled (kind y)) p ∙ no-table)));
-    pages = λ u e j k l n. ap (byte-of k) (same u j (λ (p : u ≡ f). true≢false (sym e ∙ ap (λ (y : ℕ). reads g (kind y) (shared y g)) p ∙ hid))) ∙ m .pages u e j k l n;
+    page-count = λ u e j k l n. ap (byte-of k) (same u j (λ (p : u ≡ f). true≢false (sym e ∙ ap (λ (y : ℕ). reads g (kind y) (shared y g)) p ∙ hid))) ∙ m .page-count u e j k l n;
   }
 
 -- from the other side
-pub agrees-turned : (g : ℕ) (kind : ℕ → Kind) (shared a b : ℕ → ℕ → ℕ) → Agrees g kind shared a b → Agrees g kind shared b a
-agrees-turned g kind shared a b m = record { tables = λ t e i. sym (m .tables t e i); pages = λ f e j k l n. sym (m .pages f e j k l n) }
+pub agrees-turned : (g : ℕ) (kind : ℕ → FrameKind) (shared a b : ℕ → ℕ → ℕ) → Agrees g kind shared a b → Agrees g kind shared b a
+agrees-turned g kind shared a b m = record { tables = λ t e i. sym (m .tables t e i); page-count = λ f e j k l n. sym (m .page-count f e j k l n) }

@@ -23,12 +23,12 @@ use Rattle.model.proofs.Invariant.Answer.{then-done, Good}
 use Rattle.model.proofs.Invariant.Holds.{Holds, answer-good, step-holds, set-up-holds}
 use Rattle.model.proofs.Invariant.Allowed.{frame-allowed}
 use Rattle.model_noninterference.proofs.Invariant.Agrees.{Agrees, agrees-stored, agrees-apart, agrees-turned}
-use Rattle.model_noninterference.proofs.Invariant.Echo.{Both, both-refuse, both-done, Echo, answer-echo, frame-bytes, bytes-frame}
+use Rattle.model_noninterference.proofs.Invariant.SameAnswers.{Both, both-refuse, both-done, Echo, answer-echo, frame-bytes, bytes-frame}
 
 -- the same translations are kept, for every guest
 pub record Same-kept (k k′ : Caches) : Type 0 where
   pub tables : (g h p x : ℕ) → k .table-kept g h p x ↔ k′ .table-kept g h p x
-  pub pages : (g v x r : ℕ) → k .page-kept g v x r ↔ k′ .page-kept g v x r
+  pub page-count : (g v x r : ℕ) → k .page-kept g v x r ↔ k′ .page-kept g v x r
 
 pub record Alike (g : ℕ) (y z : Machine) : Type 0 where
   pub state : Echo g (y .state) (z .state)
@@ -58,12 +58,12 @@ reworded-kept : (g : ℕ) (s : State) (w : ℕ → ℕ → ℕ) (k k′ : Caches
 unfolding grown
 reworded-kept g s w k k′ c q c′ q′ m x = record {
   tables = λ g h p y. (
-    table-echo s k c q w k′ (m .tables) (λ g h p y. x .tables g h p y .0) (λ g v y r. x .pages g v y r .0) g,
-    table-echo (reworded s w) k′ c′ q′ (s .word) k (λ t e i. sym (m .tables t e i)) (λ g h p y. x .tables g h p y .1) (λ g v y r. x .pages g v y r .1) g,
+    table-echo s k c q w k′ (m .tables) (λ g h p y. x .tables g h p y .0) (λ g v y r. x .page-count g v y r .0) g,
+    table-echo (reworded s w) k′ c′ q′ (s .word) k (λ t e i. sym (m .tables t e i)) (λ g h p y. x .tables g h p y .1) (λ g v y r. x .page-count g v y r .1) g,
   );
-  pages = λ g v y r. (
-    page-echo s k c q w k′ (m .tables) (λ g h p y. x .tables g h p y .0) (λ g v y r. x .pages g v y r .0) g,
-    page-echo (reworded s w) k′ c′ q′ (s .word) k (λ t e i. sym (m .tables t e i)) (λ g h p y. x .tables g h p y .1) (λ g v y r. x .pages g v y r .1) g,
+  page-count = λ g v y r. (
+    page-echo s k c q w k′ (m .tables) (λ g h p y. x .tables g h p y .0) (λ g v y r. x .page-count g v y r .0) g,
+    page-echo (reworded s w) k′ c′ q′ (s .word) k (λ t e i. sym (m .tables t e i)) (λ g h p y. x .tables g h p y .1) (λ g v y r. x .page-count g v y r .1) g,
   );
 }
 
@@ -76,7 +76,7 @@ forget-same : (k k′ : Caches) (g : ℕ) → Same-kept k k′ → Same-kept (fo
 unfolding forget
 forget-same k k′ g x = record {
   tables = λ h n p y. (λ a. (a .0, x .tables h n p y .0 (a .1)), λ a. (a .0, x .tables h n p y .1 (a .1)));
-  pages = λ h v y r. (λ a. (a .0, x .pages h v y r .0 (a .1)), λ a. (a .0, x .pages h v y r .1 (a .1)));
+  page-count = λ h v y r. (λ a. (a .0, x .page-count h v y r .0 (a .1)), λ a. (a .0, x .page-count h v y r .1 (a .1)));
 }
 
 keeps-same : (k k′ : Caches) (o : Operation) → Same-kept k k′ → Same-kept (keeps k o) (keeps k′ o)
@@ -145,7 +145,7 @@ stores-step {m} {h} {f} {o} {x} r = stores h f o x (r .lives) (r .in-ram) (r .in
 
 -- from the other side
 turned-kept : (k k′ : Caches) → Same-kept k k′ → Same-kept k′ k
-turned-kept k k′ x = record { tables = λ g h p y. (x .tables g h p y .1, x .tables g h p y .0); pages = λ g v y r. (x .pages g v y r .1, x .pages g v y r .0) }
+turned-kept k k′ x = record { tables = λ g h p y. (x .tables g h p y .1, x .tables g h p y .0); page-count = λ g v y r. (x .page-count g v y r .1, x .page-count g v y r .0) }
 
 turned-echo : (g : ℕ) (s s′ : State) → Echo g s s′ → Echo g s′ s
 turned-echo g s s′ e =
@@ -158,7 +158,7 @@ turned {g} {y} {z} a = record { state = turned-echo g (y .state) (z .state) (a .
 -- The processor has kept all that it can find: so it is after every step.
 pub record Closed (s : State) (k : Caches) : Type 0 where
   pub tables : (g h p x : ℕ) → Table s k g h p x → k .table-kept g h p x
-  pub pages : (g v x r : ℕ) → Translation s k g v x r → k .page-kept g v x r
+  pub page-count : (g v x r : ℕ) → Translation s k g v x r → k .page-kept g v x r
 
 table-again : (s : State) (k : Caches) (g : ℕ) {h p x : ℕ} → Table s (grown s k) g h p x → Table s k g h p x
 unfolding grown
@@ -173,7 +173,7 @@ page-again s k g v (read-off h y t p a e l d o) = read-off h y t p (table-again 
 
 pub grown-closed : (s : State) (k : Caches) → Closed s (grown s k)
 unfolding grown
-grown-closed s k = record { tables = λ g h p x a. table-again s k g a; pages = λ g v x r a. page-again s k g v a }
+grown-closed s k = record { tables = λ g h p x a. table-again s k g a; page-count = λ g v x r a. page-again s k g v a }
 
 settled-closed : (m : Machine) (k : Caches) (x : Out) → Closed (settle m k x .state) (settle m k x .caches)
 unfolding settle
@@ -189,7 +189,7 @@ closed-same : (s : State) (k k′ : Caches) → Closed s k′ → Same-kept k (g
 unfolding grown
 closed-same s k k′ c x = record {
   tables = λ g h p y. (λ a. c .tables g h p y (x .tables g h p y .0 a), λ a. x .tables g h p y .1 (from-kept a));
-  pages = λ g v y r. (λ a. c .pages g v y r (x .pages g v y r .0 a), λ a. x .pages g v y r .1 (kept a));
+  page-count = λ g v y r. (λ a. c .page-count g v y r (x .page-count g v y r .0 a), λ a. x .page-count g v y r .1 (kept a));
 }
 
 -- what was kept is among what is found
@@ -287,7 +287,7 @@ started-echo g n b k w w′ = (
   refl,
   record {
     tables = λ t e. elim (started-kind n k t) [ inl x ↦ let z : false ≡ true = rw x at e in absurd (never z) | inr x ↦ let z : false ≡ true = rw x at e in absurd (never z) ];
-    pages = λ f e. elim (started-kind n k f) [ inl x ↦ let z : false ≡ true = rw x at e in absurd (never z) | inr x ↦ let z : false ≡ true = rw x at e in absurd (never z) ];
+    page-count = λ f e. elim (started-kind n k f) [ inl x ↦ let z : false ≡ true = rw x at e in absurd (never z) | inr x ↦ let z : false ≡ true = rw x at e in absurd (never z) ];
   },
 )
   where
@@ -295,7 +295,7 @@ started-echo g n b k w w′ = (
     never e = let z : _≡_ {A = ℕ} 0 1 = cc in omega arith
 
 pub nothing-found : (s : State) → ((g : ℕ) → s .exists g ≡ false) → Closed s nothing-kept
-nothing-found s e = record { tables = λ g h p x a. none g a; pages = λ g v x r a. none-page g v a }
+nothing-found s e = record { tables = λ g h p x a. none g a; page-count = λ g v x r a. none-page g v a }
   where
     none : (g : ℕ) {h p x : ℕ} → Table s nothing-kept g h p x → ⊥
     none g (from-root l q) = let z : false ≡ true = sym (e g) ∙ l in let z : _≡_ {A = ℕ} 0 1 = cc in omega arith
@@ -329,7 +329,7 @@ started-pair g {y} {z} x = record {
         (same-numbers (a .n) (b .n) (a .b) (b .b) (a .k) (b .k) (a .word) (b .word) (x .same-n) (x .same-b) (x .same-k))
 
     nothing : Same-kept nothing-kept nothing-kept
-    nothing = record { tables = λ g h p x. (λ a. a, λ a. a); pages = λ g v x r. (λ a. a, λ a. a) }
+    nothing = record { tables = λ g h p x. (λ a. a, λ a. a); page-count = λ g v x r. (λ a. a, λ a. a) }
 
     same-caches : y .caches ≡ nothing-kept → z .caches ≡ nothing-kept → Same-kept (y .caches) (z .caches)
     same-caches p q = rw (p, q) nothing
@@ -354,7 +354,7 @@ pair-ledger {g} {y} {z} p =
 
 pub pair-reach : {g : ℕ} {y z : Machine} → Pair g y z → (h : ℕ) (w : Access) (a : ℕ) → Reaches y h w a → Reaches z h w a
 unfolding Reach
-pair-reach {g} {y} {z} p h w a x = (x .0, x .1, kept (p .alike .caches .pages h (x .0) (a / 4096) (x .1) .0 (p .first-closed .pages h (x .0) (a / 4096) (x .1) (x .2))), x .3)
+pair-reach {g} {y} {z} p h w a x = (x .0, x .1, kept (p .alike .caches .page-count h (x .0) (a / 4096) (x .1) .0 (p .first-closed .page-count h (x .0) (a / 4096) (x .1) (x .2))), x .3)
 
 pub lends-reads : (how : ℕ) (w : Access) → lends how w ≡ true → leb 1 how ≡ true
 lends-reads how reading e = e
@@ -374,7 +374,7 @@ pub pair-bytes : {g : ℕ} {y z : Machine} → Pair g y z → (w : Access) (a f 
 pair-bytes {g} {y} {z} p w a f e x =
     let q = p .alike .state in
     let q1 = q .1 in
-    let b = bytes-frame (y .state) (reworded (y .state) (q .0)) f f (q .2 .pages f (allowed-shown (y .state) g f w (frame-allowed (p .first) g w a f e x))) (a % 4096) (omega arith) in
+    let b = bytes-frame (y .state) (reworded (y .state) (q .0)) f f (q .2 .page-count f (allowed-shown (y .state) g f w (frame-allowed (p .first) g w a f e x))) (a % 4096) (omega arith) in
     rw q1 b
 
 pub pair-turned : {g : ℕ} {y z : Machine} → Pair g y z → Pair g z y

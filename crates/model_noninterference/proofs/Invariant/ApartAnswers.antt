@@ -10,7 +10,7 @@ use borrow.Author.Tests.{ltb-true, le-leb, eq-eqb, ne-eqb}
 use Rattle.model.proofs.Laws.Base.{eq?, bool?, and-true}
 use Rattle.model.specs.Base.{upd}
 use Rattle.model.proofs.Laws.Base.{upd-same}
-use Rattle.model.specs.State.{State, free, page, draining-page, byte, pages}
+use Rattle.model.specs.State.{State, free, page, draining-page, byte, page-count}
 use Rattle.model.specs.Translate.{Page, translate}
 use Rattle.model.specs.Changes.{zeros, becomes}
 use Rattle.model.specs.Operations.{done, shares, give, share}
@@ -197,7 +197,7 @@ module _ (g : ℕ) (R : Frames) (y z : Machine) (cy : Covers g R y z) (cz : Cove
   same-dirty reports d = refl
 
   -- at one page something else, elsewhere as before
-  elsewhere : (v v′ f r : ℕ) (p p′ : Option Page) → v < pages → (p ≡ some (f, r) → (f′ : ℕ) × R f f′ × (p′ ≡ some (f′, r))) → cond (eqb v v′) p (translate (y .state) g v) ≡ some (f, r) →
+  elsewhere : (v v′ f r : ℕ) (p p′ : Option Page) → v < page-count → (p ≡ some (f, r) → (f′ : ℕ) × R f f′ × (p′ ≡ some (f′, r))) → cond (eqb v v′) p (translate (y .state) g v) ≡ some (f, r) →
       (f′ : ℕ) × R f f′ × (cond (eqb v v′) p′ (translate (z .state) g v) ≡ some (f′, r))
   elsewhere v v′ f r p p′ l here e = elim (bool? (eqb v v′)) [
     | inl a ↦ rw a (here (rw a at e))
@@ -211,7 +211,7 @@ module _ (g : ℕ) (R : Frames) (y z : Machine) (cy : Covers g R y z) (cz : Cove
   page-parts f r f₀ r₀ e = let q : _≡_ {A = Page} (f₀, r₀) (f, r) = cc in (ap (λ (x : Page). x .0) q, ap (λ (x : Page). x .1) q)
 
   -- the tables say the same
-  same-now : {o o′ : Operation} → Matches g R (y .state) (z .state) o o′ → (v f r : ℕ) → v < pages → expected (y .state) o g v ≡ some (f, r) → (f′ : ℕ) × R f f′ × (expected (z .state) o′ g v ≡ some (f′, r))
+  same-now : {o o′ : Operation} → Matches g R (y .state) (z .state) o o′ → (v f r : ℕ) → v < page-count → expected (y .state) o g v ≡ some (f, r) → (f′ : ℕ) × R f f′ × (expected (z .state) o′ g v ≡ some (f′, r))
   unfolding expected
   same-now creates v f r l e = cy .now v f r l e
   same-now gives v f r l e = cy .now v f r l e
@@ -273,7 +273,7 @@ module _ (g : ℕ) (R : Frames) (y z : Machine) (cy : Covers g R y z) (cz : Cove
         go (inr p) (inl q) = sym (brought-single ma (y′ .state) (z′ .state) ey ez f f′ f″ (p .0) (p .1) q)
         go (inr p) (inr q) = let p1 = p .1 in let q1 = q .1 in cc
 
-    now-again : (v f r : ℕ) → v < pages → translate (y′ .state) g v ≡ some (f, r) → (f′ : ℕ) × R′ f f′ × (translate (z′ .state) g v ≡ some (f′, r))
+    now-again : (v f r : ℕ) → v < page-count → translate (y′ .state) g v ≡ some (f, r) → (f′ : ℕ) × R′ f f′ × (translate (z′ .state) g v ≡ some (f′, r))
     now-again v f r l e =
         let w = same-now ma v f r l (sym (a .now v l) ∙ e) in
         (w .0, old f (w .0) (kept-role (sane-holds sy) g v f r (now-kept sy g v f r l e)) (w .1), b .now v l ∙ w .2)

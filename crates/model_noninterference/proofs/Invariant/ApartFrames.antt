@@ -7,7 +7,7 @@ use lib.Dec.{eqb}
 use borrow.Author.Tests.{eq-eqb, ne-eqb}
 use Rattle.model.proofs.Laws.Base.{eq?}
 use Rattle.model.proofs.Laws.Base.{upd2-at, upd2-other}
-use Rattle.model.specs.State.{State, put-byte, byte, pages}
+use Rattle.model.specs.State.{State, put-byte, byte, page-count}
 use Rattle.model.specs.Translate.{translate}
 use Rattle.model.specs.Cache.{kept}
 use Rattle.model.specs.Machine.{Machine, stored}
@@ -27,7 +27,7 @@ pub record Covers (g : ℕ) (R : Frames) (y z : Machine) : Type 0 where
   pub there : (f : ℕ) → (role-of (y .state) g f ≡ 0 → ⊥) → (f′ : ℕ) × R f f′
   pub single : (f f′ f″ : ℕ) → R f f′ → R f f″ → f′ ≡ f″
   pub dirty : y .state .dirty g ≡ z .state .dirty g
-  pub now : (v f r : ℕ) → v < pages → translate (y .state) g v ≡ some (f, r) → (f′ : ℕ) × R f f′ × (translate (z .state) g v ≡ some (f′, r))
+  pub now : (v f r : ℕ) → v < page-count → translate (y .state) g v ≡ some (f, r) → (f′ : ℕ) × R f f′ × (translate (z .state) g v ≡ some (f′, r))
   pub kept : (v f r : ℕ) → y .caches .page-kept g v (y .state .first + f) r → (f′ : ℕ) × R f f′ × z .caches .page-kept g v (z .state .first + f′) r
   pub bytes : (f f′ : ℕ) → R f f′ → Same-bytes (y .state) (z .state) f f′
 

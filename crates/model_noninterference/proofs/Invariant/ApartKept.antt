@@ -8,7 +8,7 @@ use native.Mathlib.Omega.{arith}
 use lib.Dec.{eqb}
 use borrow.Author.Tests.{leb-true, eq-eqb, ne-eqb}
 use Rattle.model.specs.Base.{upd, upd2}
-use Rattle.model.specs.State.{State, Kind, free, table, draining-table, page, draining-page, free-frames, pages}
+use Rattle.model.specs.State.{State, FrameKind, free, table, draining-table, page, draining-page, free-frames, page-count}
 use Rattle.model.specs.Entry.{to-page, entry}
 use Rattle.model.specs.Translate.{entry-at, translate, missing}
 use Rattle.model.specs.Changes.{Choice, zeros, becomes, with-root, with-page, with-mapping, without-page, drained, without-guest, released, clean}
@@ -28,7 +28,7 @@ use Rattle.model.proofs.Invariant.Holds.{Holds, holds, answer-good, nothing-ok}
 use Rattle.model.proofs.Invariant.Orderly.{Orderly, orderly}
 use Rattle.model.proofs.Invariant.Linked.{Linked}
 use Rattle.model.proofs.Invariant.Reaching.{reported, kept-after, found}
-use Rattle.model.proofs.Invariant.Hung.{hung, last-low, entry-translates}
+use Rattle.model.proofs.Invariant.LinkedAlways.{linked-always, last-low, entry-translates}
 use Rattle.model_noninterference.proofs.Invariant.Alike.{Closed}
 
 -- only destroy makes tables drain, and what drains keeps its words; a report for g leaves no table that drains for g. Such a table was there before
@@ -49,7 +49,7 @@ module _ (g : ℕ) (s : State) (c : Core s) where
   abbrev Kinds-from : State → Type 0
   Kinds-from s′ = (t h p : ℕ) → s′ .kind t ≡ draining-table g h p → s .kind t ≡ draining-table g h p
 
-  becomes-from : (f : ℕ) (y : Kind) (w sh : ℕ → ℕ → ℕ) → eqb (sort y) 3 ≡ false → Kinds-from (becomes s f y w sh)
+  becomes-from : (f : ℕ) (y : FrameKind) (w sh : ℕ → ℕ → ℕ) → eqb (sort y) 3 ≡ false → Kinds-from (becomes s f y w sh)
   unfolding becomes
   becomes-from f y w sh n t h p a = kind-from (s .kind) f y t (draining-table g h p) a n
 
@@ -154,12 +154,12 @@ pub sane-holds : {m : Machine} → Sane m → Holds m
 sane-holds x = holds (x .set-up) (x .run)
 
 pub sane-linked : {m : Machine} → Sane m → Linked (m .state)
-sane-linked x = hung (x .set-up) (x .run)
+sane-linked x = linked-always (x .set-up) (x .run)
 
 module _ {m : Machine} (x : Sane m) where
   -- what the tables say now has been kept
-  pub now-kept : (g v f r : ℕ) → v < pages → translate (m .state) g v ≡ some (f, r) → m .caches .page-kept g v (m .state .first + f) r
-  now-kept g v f r l e = x .closed .pages g v (m .state .first + f) r (found (m .state) (sane-holds x .core) (m .caches) g v f r l e)
+  pub now-kept : (g v f r : ℕ) → v < page-count → translate (m .state) g v ≡ some (f, r) → m .caches .page-kept g v (m .state .first + f) r
+  now-kept g v f r l e = x .closed .page-count g v (m .state .first + f) r (found (m .state) (sane-holds x .core) (m .caches) g v f r l e)
 
   -- and so has what stands in any last table
   entry-kept : (t g v f r : ℕ) → (m .state .kind t ≡ draining-table g 0 (v / 512)) ⊎ (m .state .kind t ≡ table g 0 (v / 512)) → entry-at (m .state) t (v % 512) ≡ to-page f r → m .caches .page-kept g v (m .state .first + f) r
@@ -187,7 +187,7 @@ module _ {m : Machine} (x : Sane m) where
 module _ (s : State) (k : Caches) (c : Core s) (q : Kept s k) (l : Linked s) (g : ℕ)
     (stale : (t v f r : ℕ) → s .kind t ≡ draining-table g 0 (v / 512) → entry-at s t (v % 512) ≡ to-page f r → k .page-kept g v (s .first + f) r) where
   abbrev Kept-or-now : (v f r : ℕ) → Type 0
-  Kept-or-now v f r = k .page-kept g v (s .first + f) r ⊎ ((v < pages) × (translate s g v ≡ some (f, r)))
+  Kept-or-now v f r = k .page-kept g v (s .first + f) r ⊎ ((v < page-count) × (translate s g v ≡ some (f, r)))
 
   pub found-is : {v x r : ℕ} → Translation s k g v x r → (f : ℕ) → x ≡ s .first + f → Kept-or-now v f r
   found-is {v} {x} {r} y f x= = elim (traced s k c q g y) [

@@ -5,7 +5,7 @@ use mathlib.Core.Logic.{inl, inr}
 use mathlib.Core.Option.{Option, none, some}
 use Prim.Native.Nat.{ℕ, _+_, _/_}
 use native.Mathlib.Omega.{arith}
-use Rattle.model.specs.State.{State, monitor, free, draining-table, pages}
+use Rattle.model.specs.State.{State, monitor, free, draining-table, page-count}
 use Rattle.model.specs.Translate.{Page, translate}
 use Rattle.model.specs.Operations.{Out, refuse, done, at-first, started}
 use Rattle.model.specs.Cache.{nothing-kept, kept, grown}
@@ -147,7 +147,7 @@ start-seen g x w = record { first = sane-start x; second = sane-start w; covers 
 -- what the theorems say
 pub covers-reads : (g : ℕ) (R : Frames) {y z : Machine} → Sane y → Covers g R y z → (v r : ℕ) (bytes : ℕ → ℕ) → Reads y g v r bytes → Reads z g v r bytes
 covers-reads g R {y} {z} x c v r bytes a =
-    let w = c .kept v (a .0) r (x .closed .pages g v (y .state .first + a .0) r (a .1)) in
+    let w = c .kept v (a .0) r (x .closed .page-count g v (y .state .first + a .0) r (a .1)) in
     (w .0, kept (w .2), λ i l. sym (c .bytes (a .0) (w .0) (w .1) i l) ∙ a .2 i l)
 
 pub covers-reads-now : (g : ℕ) (R : Frames) {y z : Machine} → Covers g R y z → (v r : ℕ) (bytes : ℕ → ℕ) → Reads-now y g v r bytes → Reads-now z g v r bytes

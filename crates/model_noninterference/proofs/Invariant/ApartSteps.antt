@@ -8,7 +8,7 @@ use native.Mathlib.Omega.{arith}
 use lib.Dec.{eqb, leb}
 use borrow.Author.Tests.{eqb-true, eqb-false, ne-eqb}
 use Rattle.model.proofs.Laws.Base.{upd2-other}
-use Rattle.model.specs.State.{State, Kind, monitor, free, table, draining-table, page, draining-page, put-byte, byte-of, byte, pages, reworded, tabled}
+use Rattle.model.specs.State.{State, FrameKind, monitor, free, table, draining-table, page, draining-page, put-byte, byte-of, byte, page-count, reworded, tabled}
 use Rattle.model.specs.Entry.{entry}
 use Rattle.model.specs.Translate.{entry-at, translate}
 use Rattle.model.specs.Operations.{Out, refuse, done}
@@ -64,7 +64,7 @@ sane-written y r = record { start = y .start; set-up = y .set-up; run = run-on (
 pub record Same-view (g : ℕ) (m m′ : Machine) : Type 0 where
   pub roles : (f : ℕ) → role-of (m′ .state) g f ≡ role-of (m .state) g f
   pub dirty : m′ .state .dirty g ≡ m .state .dirty g
-  pub now : (v : ℕ) → v < pages → translate (m′ .state) g v ≡ translate (m .state) g v
+  pub now : (v : ℕ) → v < page-count → translate (m′ .state) g v ≡ translate (m .state) g v
   pub kept : (v f r : ℕ) → m′ .caches .page-kept g v (m′ .state .first + f) r ↔ m .caches .page-kept g v (m .state .first + f) r
 
 -- and so are the bytes of its frames
@@ -81,7 +81,7 @@ written-view g {m} y {h} {f} {o} {x} r = record {
   roles = λ u. refl;
   dirty = refl;
   now = λ v l. same-translate (m .state) c (stored (m .state) f o x) g refl refl entries v l;
-  kept = λ v f′ r′. (λ a. y .closed .pages g v (m .state .first + f′) r′ (back v (m .state .first + f′) r′ a), λ a. kept a);
+  kept = λ v f′ r′. (λ a. y .closed .page-count g v (m .state .first + f′) r′ (back v (m .state .first + f′) r′ a), λ a. kept a);
 }
   where
     c : Core (m .state)
@@ -105,13 +105,13 @@ written-view g {m} y {h} {f} {o} {x} r = record {
 -- An answered operation, as g sees it.
 pub record Called (g : ℕ) (m : Machine) (o : Operation) (m′ : Machine) : Type 0 where
   pub turns : Turns g (m .state) o (m′ .state)
-  pub now : (v : ℕ) → v < pages → translate (m′ .state) g v ≡ expected (m .state) o g v
+  pub now : (v : ℕ) → v < page-count → translate (m′ .state) g v ≡ expected (m .state) o g v
   pub was-kept : (v f r : ℕ) → m′ .caches .page-kept g v (m′ .state .first + f) r →
-      ((reported g o ≡ false) × m .caches .page-kept g v (m .state .first + f) r) ⊎ ((v < pages) × (translate (m′ .state) g v ≡ some (f, r)))
+      ((reported g o ≡ false) × m .caches .page-kept g v (m .state .first + f) r) ⊎ ((v < page-count) × (translate (m′ .state) g v ≡ some (f, r)))
   pub still-kept : (v f r : ℕ) → reported g o ≡ false → m .caches .page-kept g v (m .state .first + f) r → m′ .caches .page-kept g v (m′ .state .first + f) r
   pub bytes : Bytes-stay g m m′
 
-role-sort : (g : ℕ) (x : Kind) (how : ℕ) → (role g x how ≡ 0 → ⊥) → (eqb 1 (sort x) ≡ false) × (eqb 2 (sort x) ≡ false)
+role-sort : (g : ℕ) (x : FrameKind) (how : ℕ) → (role g x how ≡ 0 → ⊥) → (eqb 1 (sort x) ≡ false) × (eqb 2 (sort x) ≡ false)
 role-sort g monitor how n = absurd (n refl)
 role-sort g free how n = absurd (n refl)
 role-sort g (table h l p) how n = absurd (n refl)
@@ -231,7 +231,7 @@ apart-unseen g {m} x o m′ e z = record {
 refused-unseen : (g : ℕ) {m : Machine} → Sane m → Unseen g m (record { state = m .state; caches = grown (m .state) (m .caches) })
 unfolding grown
 refused-unseen g {m} x = record {
-  view = record { roles = λ f. refl; dirty = refl; now = λ v l. refl; kept = λ v f r. (λ a. x .closed .pages g v (m .state .first + f) r a, λ a. kept a) };
+  view = record { roles = λ f. refl; dirty = refl; now = λ v l. refl; kept = λ v f r. (λ a. x .closed .page-count g v (m .state .first + f) r a, λ a. kept a) };
   bytes = λ f n i l. refl;
 }
 
@@ -245,7 +245,7 @@ called-unseen g {m} x o ch w = go (answer (m .state) o) refl w
     go (done s′) e (inr a) = let z : _≡_ {A = ℕ} 0 1 = cc in absurd (omega arith)
 
 -- a store to a frame that is not shown to g
-reads-role : (g : ℕ) (x : Kind) (how : ℕ) → reads g x how ≡ not (eqb (role g x how) 0)
+reads-role : (g : ℕ) (x : FrameKind) (how : ℕ) → reads g x how ≡ not (eqb (role g x how) 0)
 reads-role g monitor how = refl
 reads-role g free how = refl
 reads-role g (table h n p) how = refl

@@ -8,11 +8,11 @@ use lib.Dec.{eqb, ltb, leb}
 use lib.ListN.{length}
 use borrow.Author.Tests.{leb-true, ltb-true, eqb-true, le-leb, lt-leb, lt-ltb, le-ltb, eq-eqb, ne-eqb}
 use Rattle.model.proofs.Laws.Base.{and-true}
-use Rattle.model.specs.State.{State, pages}
+use Rattle.model.specs.State.{State, page-count}
 use Rattle.model.specs.Operations.{done, refusal, check, set-up, started}
 use Rattle.model.proofs.Invariant.Holds.{started-core}
 use Rattle.ledger.specs.Layout.{words-for, most-frames, size-of, word-of, state-in}
-use Rattle.ledger_free.specs.Start.{LaidOut}
+use Rattle.ledger_free.specs.Start.{Laid-out}
 use Rattle.monitor_contract.proofs.Laws.Answers.{refused-so, stops, goes-on, through, and-left, and-right, and-both}
 use Rattle.monitor.specs.SetUp.{slices-fit, setting-up, SetUp}
 
@@ -91,13 +91,13 @@ module _ (n b k : ℕ) (m l : List ℕ) where
         let c = leb-true n 65536 (and-true (A && B) C upto-C .1) in
         (lengths .1, omega arith, ltb-true k n (and-true (A && B && C && D && E) (ltb k n) all-fit .1))
 
-    pub set-up-end : (l′ : List ℕ) → LaidOut n b k l′ → SetUp n b k m l 0 l′
-    set-up-end l′ x = record { sound = λ _. record { stock = x .stock; ram-fits = fits; core = rw (x .state m) (started-core n k b (word-of m) room) }; outcome = rw made (refl, x .state m) }
+    pub set-up-end : (l′ : List ℕ) → Laid-out n b k l′ → SetUp n b k m l 0 l′
+    set-up-end l′ x = record { sound = λ _. record { ledger-sound = x .ledger-sound; ram-fits = fits; core = rw (x .state m) (started-core n k b (word-of m) room) }; outcome = rw made (refl, x .state m) }
       where
         made : setting-up n b k m l ≡ done (started n b k (word-of m))
         made = unfold set-up check in rw all-fit
 
-        room : b / 4096 + n ≤ pages
+        room : b / 4096 + n ≤ page-count
         room = let e = leb-true (b + 4096 * n) 0x1000000000000 (and-true (A && B && C && D) E upto-E .1) in omega arith
 
         fits : length m ≡ size-of l′ * 4096

@@ -8,14 +8,14 @@ use native.Mathlib.Omega.{arith}
 use lib.Dec.{ltb, leb}
 use lib.ListN.{length}
 use borrow.Author.Tests.{le-ltb, lt-leb}
-use Rattle.model.specs.State.{State, Kind, guests, is-guest}
+use Rattle.model.specs.State.{State, FrameKind, guests, is-guest}
 use Rattle.model.specs.Operations.{Out, refuse, done, refusal, check}
 use Rattle.model.specs.Cache.{Caches}
 use Rattle.model.specs.Invariant.{Core, Kept}
 use Rattle.model.proofs.Invariant.Answer.{Then, Good, core-alone, then-is}
 use Rattle.ledger.specs.Layout.{size-of, state-in, state-of}
 use Rattle.ledger.specs.Fields.{remade, with-kind}
-use Rattle.ledger.specs.Stock.{Stock, Changed, Taken}
+use Rattle.ledger.specs.LedgerSound.{Ledger-sound, Changed, Taken}
 use Rattle.ledger.specs.Sound.{Sound}
 use Rattle.monitor_contract.specs.Answers.{Outcome, Operation, out, Answers, Done}
 
@@ -51,24 +51,24 @@ through true k o h e = (refl, e, refl)
 through false k o h e = absurd (omega arith)
 
 -- Sound after it: model's invariant holds of what the operation makes
-core-sound : (m l m′ l′ : List ℕ) (o : Out) → Sound m l → Then Core o → o ≡ done (state-of m′ l′) → Stock l′ → length m′ ≡ length m → state-of m′ l′ .size ≡ state-of m l .size → Sound m′ l′
+core-sound : (m l m′ l′ : List ℕ) (o : Out) → Sound m l → Then Core o → o ≡ done (state-of m′ l′) → Ledger-sound l′ → length m′ ≡ length m → state-of m′ l′ .size ≡ state-of m l .size → Sound m′ l′
 unfolding state-in
-core-sound m l m′ l′ o s core e stock len size = record {
-  stock = stock;
+core-sound m l m′ l′ o s core e ledger-sound len size = record {
+  ledger-sound = ledger-sound;
   ram-fits = let a = s .ram-fits in let b : size-of l′ ≡ size-of l = size in omega arith;
   core = then-is o (state-of m′ l′) core e;
 }
 
 -- the doing, from the state that it has made
 module _ (o : Operation) (after : State) {m l m′ l′ : List ℕ} (s : Sound m l) where
-  pub core-done : Then Core (out o m l) → out o m l ≡ done after → Stock l′ → length m′ ≡ length m → after .size ≡ state-of m l .size → state-of m′ l′ ≡ after → Done o m l m′ l′
-  core-done core e stock len size state = record { sound = core-sound m l m′ l′ (out o m l) s core made stock len (ap (λ (x : State). x .size) state ∙ size); made = made }
+  pub core-done : Then Core (out o m l) → out o m l ≡ done after → Ledger-sound l′ → length m′ ≡ length m → after .size ≡ state-of m l .size → state-of m′ l′ ≡ after → Done o m l m′ l′
+  core-done core e ledger-sound len size state = record { sound = core-sound m l m′ l′ (out o m l) s core made ledger-sound len (ap (λ (x : State). x .size) state ∙ size); made = made }
     where
       made : out o m l ≡ done (state-of m′ l′)
       made = e ∙ ap done (sym state)
 
   -- the same of an operation that forgets nothing of what is kept
-  pub good-done : ((k : Caches) → Kept (state-of m l) k → Good k (out o m l)) → out o m l ≡ done after → Stock l′ → length m′ ≡ length m → after .size ≡ state-of m l .size → state-of m′ l′ ≡ after →
+  pub good-done : ((k : Caches) → Kept (state-of m l) k → Good k (out o m l)) → out o m l ≡ done after → Ledger-sound l′ → length m′ ≡ length m → after .size ≡ state-of m l .size → state-of m′ l′ ≡ after →
       Done o m l m′ l′
   good-done good = core-done (core-alone (state-of m l) (out o m l) good)
 
@@ -79,7 +79,7 @@ still-low {φ} {l} {l′} c keeps f h = let e : size-of l′ ≡ size-of l = sam
     same : size-of l′ ≡ size-of l
     same = unfold state-in in ap (λ (x : State). x .size) (c .state l) ∙ keeps (state-of l l)
 
-pub taken-low : {t : ℕ} {k : Kind} {l l′ : List ℕ} → Taken t k l l′ → (f : ℕ) → f < size-of l → f < size-of l′
+pub taken-low : {t : ℕ} {k : FrameKind} {l l′ : List ℕ} → Taken t k l l′ → (f : ℕ) → f < size-of l → f < size-of l′
 taken-low {t} {k} x f h = still-low (x .changes) (λ s. unfold with-kind remade in refl) f h
 
 -- tests, as the code makes them

@@ -11,13 +11,13 @@ use borrow.Author.Tests.{lt-ltb, le-ltb}
 use Rattle.model.proofs.Laws.Base.{bool?, eq?, lt?}
 use Rattle.model.specs.Base.{upd, upd2}
 use Rattle.model.proofs.Laws.Base.{upd-at, upd-other}
-use Rattle.model.specs.State.{State, Kind, monitor, is-guest}
+use Rattle.model.specs.State.{State, FrameKind, monitor, is-guest}
 use Rattle.model.specs.Changes.{zeros, drained, released}
 use Rattle.ledger.specs.Cells.{cell}
 use Rattle.ledger.specs.Layout.{most-frames, frames, kind-in, per-guest, count-part, size-of, kind-of, count-of, state-in, state-of}
 use Rattle.ledger.specs.Fields.{remade, with-kind, with-kind-by, with-count}
-use Rattle.ledger.specs.Stock.{Stock, Changed}
-use Rattle.ledger.proofs.Laws.Stock.{changed-as, changed-then}
+use Rattle.ledger.specs.LedgerSound.{Ledger-sound, Changed}
+use Rattle.ledger.proofs.Laws.LedgerSound.{changed-as, changed-then}
 use Rattle.ledger.proofs.Laws.Fields.{upd-self}
 use Rattle.monitor_contract.proofs.Laws.Answers.{still-low}
 use Rattle.monitor_contract.specs.EachFrame.{below, with-rows, frame-turned, turned-below, all-turned, same, without}
@@ -44,18 +44,18 @@ module _ {A : Type 0} (K : A → A) (k : ℕ → A) where
   unfolding below
   below-all n h = fun-ext (λ f. elim (lt? f n) [ inl l ↦ rw (lt-ltb f n l) | inr l ↦ rw (le-ltb f n l) (sym (h f l)) ])
 
-same-rows : {k k′ : ℕ → Kind} {c c′ : ℕ → ℕ → ℕ} (s : State) → k ≡ k′ → c ≡ c′ → with-rows k c s ≡ with-rows k′ c′ s
+same-rows : {k k′ : ℕ → FrameKind} {c c′ : ℕ → ℕ → ℕ} (s : State) → k ≡ k′ → c ≡ c′ → with-rows k c s ≡ with-rows k′ c′ s
 same-rows s p q = λ j. with-rows (p j) (q j) s
 
-module _ (K : Kind → Kind) (C : (ℕ → ℕ) → ℕ → ℕ) where
-  pub none-turned : (l : List ℕ) → Stock l → Changed (turned-below K C 0) l l
-  none-turned l s = record { stock = s; state = λ ram. sym (none (state-of ram l)) }
+module _ (K : FrameKind → FrameKind) (C : (ℕ → ℕ) → ℕ → ℕ) where
+  pub none-turned : (l : List ℕ) → Ledger-sound l → Changed (turned-below K C 0) l l
+  none-turned l s = record { ledger-sound = s; state = λ ram. sym (none (state-of ram l)) }
     where
       none : (s : State) → turned-below K C 0 s ≡ s
       none s = unfold turned-below in same-rows s (below-none K (s .kind)) (below-none C (s .count)) ∙ (unfold with-rows remade in refl)
 
   pub one-more-turned : {l l₁ l₂ : List ℕ} (i : ℕ) → Changed (turned-below K C i) l l₁ → Changed (frame-turned K C i) l₁ l₂ → Changed (turned-below K C (i + 1)) l l₂
-  one-more-turned {l} i a b = record { stock = b .stock; state = λ ram. b .state ram ∙ ap (frame-turned K C i) (a .state ram) ∙ more (state-of ram l) }
+  one-more-turned {l} i a b = record { ledger-sound = b .ledger-sound; state = λ ram. b .state ram ∙ ap (frame-turned K C i) (a .state ram) ∙ more (state-of ram l) }
     where
       more : (s : State) → frame-turned K C i (turned-below K C i s) ≡ turned-below K C (i + 1) s
       more s = unfold frame-turned turned-below with-rows remade in same-rows s (below-more K (s .kind) i) (below-more C (s .count) i)
@@ -64,7 +64,7 @@ module _ (K : Kind → Kind) (C : (ℕ → ℕ) → ℕ → ℕ) where
   turned-low i c f h = still-low c (λ s. unfold turned-below with-rows remade in refl) f h
 
 -- a row that is not there
-count-past : (l : List ℕ) → Stock l → (f : ℕ) → size-of l ≤ f → count-of l f ≡ zeros
+count-past : (l : List ℕ) → Ledger-sound l → (f : ℕ) → size-of l ≤ f → count-of l f ≡ zeros
 count-past l s f h = fun-ext (λ g. elim (bool? (is-guest g)) [
   | inl e ↦ unfold per-guest zeros in rw e (ap count-part (cell-past (3 + g)) ∙ (unfold count-part in refl))
   | inr e ↦ unfold per-guest zeros in rw e
@@ -81,7 +81,7 @@ count-past l s f h = fun-ext (λ g. elim (bool? (is-guest g)) [
         go false = refl
 
 -- after the last turn
-pub turned-all : (K : Kind → Kind) (C : (ℕ → ℕ) → ℕ → ℕ) (m l : List ℕ) → Stock l → K monitor ≡ monitor → C zeros ≡ zeros → turned-below K C (size-of l) (state-of m l) ≡ all-turned K C (state-of m l)
+pub turned-all : (K : FrameKind → FrameKind) (C : (ℕ → ℕ) → ℕ → ℕ) (m l : List ℕ) → Ledger-sound l → K monitor ≡ monitor → C zeros ≡ zeros → turned-below K C (size-of l) (state-of m l) ≡ all-turned K C (state-of m l)
 unfolding turned-below all-turned state-in
 turned-all K C m l s p q = same-rows (state-of m l)
     (below-all K (kind-of l) (size-of l) (λ f h. let e : kind-of l f ≡ monitor = unfold kind-in in rw (le-ltb f (size-of l) h) in rw e p))

@@ -5,7 +5,7 @@ use mathlib.Core.Option.{Option}
 use mathlib.Core.List.{List}
 use Prim.Native.Nat.{ℕ, _+_, _*_, _<_}
 use native.Mathlib.Omega.{arith}
-use Rattle.memory.specs.Word.{wordAt}
+use Rattle.memory.specs.Word.{word-at}
 use Rattle.walk.specs.Both.{stage-2}
 use Rattle.model.specs.State.{State}
 use Rattle.model.specs.Translate.{Page}
@@ -24,7 +24,7 @@ unfolding state-in
 image-of m l ok = record {
   base = refl;
   long = let a = ok .ram-fits in omega arith;
-  words = λ f i _ k. sym (word-is m f i k) ∙ ap (wordAt m) (omega arith);
+  words = λ f i _ k. sym (word-is m f i k) ∙ ap (word-at m) (omega arith);
 }
 
 root-is : (m l : List ℕ) (g : ℕ) → state-of m l .root g ≡ root-of l g

@@ -14,7 +14,7 @@ use Rattle.model.specs.Operations.{done, refusal, check, create}
 use Rattle.model.proofs.Invariant.Create.{create-good}
 use Rattle.ledger.specs.Layout.{exists-of, dirty-of, word-of, pick-of, state-in, state-of}
 use Rattle.ledger.specs.Fields.{remade, with-kind, with-words, with-existence, with-root-at}
-use Rattle.ledger.specs.Stock.{Changed, Taken}
+use Rattle.ledger.specs.LedgerSound.{Changed, Taken}
 use Rattle.ledger.proofs.Laws.Fields.{guest-low}
 use Rattle.ledger.proofs.Laws.Words.{state-words}
 use Rattle.ledger.specs.Sound.{Sound, free-of}
@@ -45,7 +45,7 @@ module _ {m l : List ℕ} (ok : Sound m l) (g : ℕ) (h : refusal (create (state
   enough = through (leb 1 (free-frames (state-of m l))) 3 _ (omega arith) (through (not (exists-of l g) && not (dirty-of l g)) 2 _ (omega arith) rest-2 .1) .0
 
   pub create-free : 0 < free-of l
-  create-free = let a = leb-true 1 (free-frames (state-of m l)) enough in let b = free-is l (ok .stock) m in omega arith
+  create-free = let a = leb-true 1 (free-frames (state-of m l)) enough in let b = free-is l (ok .ledger-sound) m in omega arith
 
   create-is : create (state-of m l) g (pick-of l) ≡ done after
   unfolding create check state-in
@@ -55,7 +55,7 @@ module _ {m l : List ℕ} (ok : Sound m l) (g : ℕ) (h : refusal (create (state
   pub create-end : (t : ℕ) (l₁ l₂ l′ m′ : List ℕ) → t ≡ pick-of l 0 → Taken t (table g 3 0) l l₁ → word-of m′ ≡ upd (word-of m) t zeros → length m′ ≡ length m →
       Changed (with-existence g true) l₁ l₂ → Changed (with-root-at g t) l₂ l′ → Done (creating g) m l m′ l′
   create-end t l₁ l₂ l′ m′ e x w len c d =
-      good-done (creating g) after ok (λ k q. create-good (state-of m l) (ok .core) k q g (pick-of l) (chosen l (ok .stock) m)) create-is (d .stock) len (unfold with-root in refl) state
+      good-done (creating g) after ok (λ k q. create-good (state-of m l) (ok .core) k q g (pick-of l) (chosen l (ok .ledger-sound) m)) create-is (d .ledger-sound) len (unfold with-root in refl) state
     where
       same : (t : ℕ) → with-root-at g t (with-existence g true (with-kind t (table g 3 0) (with-words (upd (word-of m) t zeros) (state-of m l)))) ≡ with-root (state-of m l) g t
       same t = unfold with-root-at with-existence with-kind with-words remade with-root state-in in refl

@@ -6,7 +6,7 @@ use mathlib.Core.Option.{Option, none, some}
 use mathlib.Core.List.{List}
 use Prim.Native.Nat.{ℕ, zero, suc, _-_, _<_, _≤_, _/_, _%_, _^_}
 use native.Mathlib.Omega.{arith}
-use Rattle.model.specs.State.{State, table, pages}
+use Rattle.model.specs.State.{State, table, page-count}
 use Rattle.model.specs.Translate.{upper, index, entry-at, descend, missing-from, missing, Page, leaf, translate, is-some, mapped}
 use Rattle.model.specs.Translate.{At}
 use Rattle.model.proofs.Laws.Ways.{at-root, descend-down, descend-stop, descend-last, missing-down, missing-stop, grow-down, Leads, leads, reads-empty}
@@ -20,7 +20,7 @@ use Rattle.ledger.proofs.Laws.Sound.{within}
 use Rattle.monitor_descent.specs.Way.{Reached, Ended}
 
 module _ (s : State) (c : Core s) (g v : ℕ) where
-  pub reached-root : s .exists g ≡ true → v < pages → Reached s g v 3 (s .root g)
+  pub reached-root : s .exists g ≡ true → v < page-count → Reached s g v 3 (s .root g)
   reached-root e l = record { high = omega arith; serves = at-root s c g v e l; way = refl; lacks = refl; grows = λ pick. refl }
 
   step-down : (h t : ℕ) → Reached s g v (suc h) t → (y : Leads s g h (upper (suc h) v) (s .word t (index (suc h) v)) (entry-at s t (index (suc h) v))) → Reached s g v h (y .to)
@@ -84,7 +84,7 @@ module _ (s : State) (c : Core s) (g v : ℕ) where
 
 -- the same, of the two slices
 module _ {m l : List ℕ} (ok : Sound m l) where
-  pub way-root : (g v t : ℕ) → t ≡ root-of l g → exists-of l g ≡ true → v < pages → Reached (state-of m l) g v 3 t
+  pub way-root : (g v t : ℕ) → t ≡ root-of l g → exists-of l g ≡ true → v < page-count → Reached (state-of m l) g v 3 t
   way-root g v t e q k = subst (λ (x : ℕ). Reached (state-of m l) g v 3 x) (sym e) (unfold state-in in reached-root (state-of m l) (ok .core) g v q k)
 
   module _ {g v h t : ℕ} (a : Reached (state-of m l) g v h t) where
@@ -92,7 +92,7 @@ module _ {m l : List ℕ} (ok : Sound m l) where
     way-low = let k : t < state-of m l .size = reached-low (state-of m l) (ok .core) g v h t a in unfold state-in in k
 
     pub way-words : (t < 2 ^ 36) × Within m t
-    way-words = let k = way-low in let few = ok .stock .few in (omega arith, within m l ok t k)
+    way-words = let k = way-low in let few = ok .ledger-sound .few in (omega arith, within m l ok t k)
 
     pub way-down : (first x : ℕ) → first ≡ first-of l → 0 < h → x ≡ word-of m t (index h v) → (x ≡ 0 → ⊥) → (first ≤ x / 4096) × Reached (state-of m l) g v (h - 1) (x / 4096 - first)
     way-down first x e p q ne = rw e (unfold state-in in reached-down (state-of m l) (ok .core) g v h t x a p q ne)

@@ -19,10 +19,10 @@ abbrev μ-loop : tie.MeasureT-loop
 μ-loop ram ledger g v first table₀ height₀ table height = height
 
 first-requires : tie.Need-first-requires Inv-loop μ-loop
-first-requires c κs = c .before .before .pre .0 .stock
+first-requires c κs = c .before .before .pre .0 .ledger-sound
 
 root-requires : tie.Need-root-requires Inv-loop μ-loop
-root-requires c κs = (c .before .before .before .pre .0 .stock, guest-low (c .before .before .before .args .g) (guest-there (c .before .before .before .args .ram .now) (c .before .before .before .args .ledger .now) (c .before .before .before .pre .0) (c .before .before .before .args .g) (c .before .before .before .pre .1 .0)) .1)
+root-requires c κs = (c .before .before .before .pre .0 .ledger-sound, guest-low (c .before .before .before .args .g) (guest-there (c .before .before .before .args .ram .now) (c .before .before .before .args .ledger .now) (c .before .before .before .pre .0) (c .before .before .before .args .g) (c .before .before .before .pre .1 .0)) .1)
 
 loop-holds : tie.Need-loop-holds Inv-loop μ-loop
 loop-holds c = way-root (c .before .before .before .before .pre .0) (c .before .before .before .before .args .g) (c .before .before .before .before .args .v) (c .root .result) (c .root .ensures) (c .before .before .before .before .pre .1 .0) (c .before .before .before .before .pre .1 .1)

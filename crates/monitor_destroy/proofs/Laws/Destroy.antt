@@ -15,7 +15,7 @@ use Rattle.model.specs.Operations.{done, refusal, check, unshared, destroy}
 use Rattle.model.proofs.Invariant.Destroy.{destroy-good}
 use Rattle.ledger.specs.Layout.{size-of, kind-of, shared-of, exists-of, state-in, state-of}
 use Rattle.ledger.specs.Fields.{remade, with-existence, with-dirt}
-use Rattle.ledger.specs.Stock.{Changed}
+use Rattle.ledger.specs.LedgerSound.{Changed}
 use Rattle.ledger.proofs.Laws.Fields.{guest-low, upd-self}
 use Rattle.ledger.specs.Sound.{Sound}
 use Rattle.ledger.proofs.Laws.Sound.{guest-there}
@@ -79,7 +79,7 @@ module _ {m l : List ℕ} (ok : Sound m l) (g : ℕ) (h : refusal (destroy (stat
   -- every frame drains, without g's counts; then g is no more, and dirty
   pub destroy-end : (l₁ l₂ l′ : List ℕ) → Changed (turned-below (drained g) (without g) (size-of l)) l l₁ → Changed (with-existence g false) l₁ l₂ → Changed (with-dirt g true) l₂ l′ → Done (destroying g) m l m l′
   destroy-end l₁ l₂ l′ c d e =
-      good-done (destroying g) (without-guest (state-of m l) g) ok (λ k q. destroy-good (state-of m l) (ok .core) k q g) destroy-is (e .stock) refl (unfold without-guest in refl) state
+      good-done (destroying g) (without-guest (state-of m l) g) ok (λ k q. destroy-good (state-of m l) (ok .core) k q g) destroy-is (e .ledger-sound) refl (unfold without-guest in refl) state
     where
       none : without g zeros ≡ zeros
       none = unfold zeros in upd-self zeros g
@@ -90,4 +90,4 @@ module _ {m l : List ℕ} (ok : Sound m l) (g : ℕ) (h : refusal (destroy (stat
       state : state-of m l′ ≡ without-guest (state-of m l) g
       state =
           e .state m ∙ ap (with-dirt g true) (d .state m)
-          ∙ ap (λ (x : State). with-dirt g true (with-existence g false x)) (c .state m ∙ turned-all (drained g) (without g) m l (ok .stock) (unfold drained in refl) none) ∙ last
+          ∙ ap (λ (x : State). with-dirt g true (with-existence g false x)) (c .state m ∙ turned-all (drained g) (without g) m l (ok .ledger-sound) (unfold drained in refl) none) ∙ last

@@ -20,7 +20,7 @@ abbrev μ-loop : tie.MeasureT-loop
 μ-loop ram ledger g n f₀ f = n - f
 
 size-requires : tie.Need-size-requires Inv-loop μ-loop
-size-requires c κs = c .before .before .pre .0 .stock
+size-requires c κs = c .before .before .pre .0 .ledger-sound
 
 loop-holds : tie.Need-loop-holds Inv-loop μ-loop
 loop-holds c = (omega arith, all-none ((unshared (state-of (c .before .before .before .args .ram .now) (c .before .before .before .args .ledger .now)) (c .before .before .before .args .g))))

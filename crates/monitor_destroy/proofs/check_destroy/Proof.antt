@@ -11,7 +11,7 @@ use Rattle.monitor_destroy.proofs.check_destroy.Statement.{statement}
 use Rattle.monitor_destroy.proofs.check_destroy.Tie as tie
 
 exists-requires : tie.Need-exists-requires
-exists-requires c κs = c .before .before .pre .stock
+exists-requires c κs = c .before .before .pre .ledger-sound
 
 returns : tie.Need-returns
 unfolding destroy state-in

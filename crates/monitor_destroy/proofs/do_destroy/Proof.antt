@@ -7,13 +7,13 @@ use Rattle.monitor_destroy.proofs.do_destroy.Statement.{statement}
 use Rattle.monitor_destroy.proofs.do_destroy.Tie as tie
 
 drain-all-requires : tie.Need-drain-all-requires
-drain-all-requires c κs = (c .before .before .before .pre .0 .stock, destroy-guest (c .before .before .before .pre .0) (c .before .before .before .args .g) (c .before .before .before .pre .1))
+drain-all-requires c κs = (c .before .before .before .pre .0 .ledger-sound, destroy-guest (c .before .before .before .pre .0) (c .before .before .before .args .g) (c .before .before .before .pre .1))
 
 set-existence-requires : tie.Need-set-existence-requires
-set-existence-requires c κs = (c .before .before .before .drain-all .ensures .stock, (destroy-low (c .before .before .before .before .before .before .before .pre .0) (c .before .before .before .before .before .before .before .args .g) (c .before .before .before .before .before .before .before .pre .1), omega arith))
+set-existence-requires c κs = (c .before .before .before .drain-all .ensures .ledger-sound, (destroy-low (c .before .before .before .before .before .before .before .pre .0) (c .before .before .before .before .before .before .before .args .g) (c .before .before .before .before .before .before .before .pre .1), omega arith))
 
 set-dirty-requires : tie.Need-set-dirty-requires
-set-dirty-requires c κs = (c .before .before .before .set-existence .ensures .stock, (destroy-low (c .before .before .before .before .before .before .before .before .before .before .before .pre .0) (c .before .before .before .before .before .before .before .before .before .before .before .args .g) (c .before .before .before .before .before .before .before .before .before .before .before .pre .1), omega arith))
+set-dirty-requires c κs = (c .before .before .before .set-existence .ensures .ledger-sound, (destroy-low (c .before .before .before .before .before .before .before .before .before .before .before .pre .0) (c .before .before .before .before .before .before .before .before .before .before .before .args .g) (c .before .before .before .before .before .before .before .before .before .before .before .pre .1), omega arith))
 
 same-length : tie.Need-same-length
 same-length c = search needs

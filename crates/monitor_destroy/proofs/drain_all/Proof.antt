@@ -6,7 +6,7 @@ use lib.ListN.{length}
 use Rattle.model.specs.Changes.{drained}
 use Rattle.ledger.specs.Layout.{size-of}
 use Rattle.ledger.specs.Fields.{remade, with-kind, with-kind-by}
-use Rattle.ledger.specs.Stock.{Changed}
+use Rattle.ledger.specs.LedgerSound.{Changed}
 use Rattle.monitor_contract.proofs.Laws.Answers.{still-low}
 use Rattle.monitor_contract.specs.EachFrame.{turned-below, without}
 use Rattle.monitor_contract.proofs.Laws.EachFrame.{none-turned, one-more-turned, turned-low, drain-turn}
@@ -27,10 +27,10 @@ loop-holds : tie.Need-loop-holds Inv-loop μ-loop
 loop-holds c = (omega arith, none-turned (drained (c .before .before .before .args .g)) (without (c .before .before .before .args .g)) (c .before .before .before .args .ledger .now) (c .before .before .before .pre .0), refl)
 
 drain-requires : tie.Need-drain-requires Inv-loop μ-loop
-drain-requires c κs = (c .before .before .loop .inv .1 .stock, (turned-low (drained (c .before .before .before .before .before .before .args .g)) (without (c .before .before .before .before .before .before .args .g)) (c .before .before .loop .f) (c .before .before .loop .inv .1) (c .before .before .loop .f) (omega (arith, c .before .before .before .size .ensures .0, c .before .loop-test .taken))))
+drain-requires c κs = (c .before .before .loop .inv .1 .ledger-sound, (turned-low (drained (c .before .before .before .before .before .before .args .g)) (without (c .before .before .before .before .before .before .args .g)) (c .before .before .loop .f) (c .before .before .loop .inv .1) (c .before .before .loop .f) (omega (arith, c .before .before .before .size .ensures .0, c .before .loop-test .taken))))
 
 set-count-requires : tie.Need-set-count-requires Inv-loop μ-loop
-set-count-requires c κs = (c .before .before .before .drain .ensures .stock, (still-low (c .before .before .before .drain .ensures) (λ s. unfold with-kind-by with-kind remade in refl) (c .before .before .before .before .before .before .loop .f) ((turned-low (drained (c .before .before .before .before .before .before .before .before .before .before .args .g)) (without (c .before .before .before .before .before .before .before .before .before .before .args .g)) (c .before .before .before .before .before .before .loop .f) (c .before .before .before .before .before .before .loop .inv .1) (c .before .before .before .before .before .before .loop .f) (omega (arith, c .before .before .before .before .before .before .before .size .ensures .0, c .before .before .before .before .before .loop-test .taken)))), (c .before .before .before .before .before .before .before .before .before .before .pre .1, omega arith)))
+set-count-requires c κs = (c .before .before .before .drain .ensures .ledger-sound, (still-low (c .before .before .before .drain .ensures) (λ s. unfold with-kind-by with-kind remade in refl) (c .before .before .before .before .before .before .loop .f) ((turned-low (drained (c .before .before .before .before .before .before .before .before .before .before .args .g)) (without (c .before .before .before .before .before .before .before .before .before .before .args .g)) (c .before .before .before .before .before .before .loop .f) (c .before .before .before .before .before .before .loop .inv .1) (c .before .before .before .before .before .before .loop .f) (omega (arith, c .before .before .before .before .before .before .before .size .ensures .0, c .before .before .before .before .before .loop-test .taken)))), (c .before .before .before .before .before .before .before .before .before .before .pre .1, omega arith)))
 
 add-f : tie.Need-add-f Inv-loop μ-loop
 add-f c = omega (arith, c .before .before .before .before .before .before .before .before .before .before .size .ensures .1)

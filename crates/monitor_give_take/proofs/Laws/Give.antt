@@ -15,7 +15,7 @@ use Rattle.model.proofs.Invariant.Kinds.{free-is}
 use Rattle.model.proofs.Invariant.GiveTake.{give-good}
 use Rattle.ledger.specs.Layout.{size-of, exists-of, kind-of, word-of, state-in, state-of}
 use Rattle.ledger.specs.Fields.{remade, with-kind, with-no-shares, with-words}
-use Rattle.ledger.specs.Stock.{Changed, Taken}
+use Rattle.ledger.specs.LedgerSound.{Changed, Taken}
 use Rattle.ledger.proofs.Laws.Fields.{guest-low}
 use Rattle.ledger.proofs.Laws.Words.{state-words}
 use Rattle.ledger.specs.Sound.{Sound}
@@ -54,7 +54,7 @@ module _ {m l : List ℕ} (ok : Sound m l) (f g : ℕ) (h : refusal (give (state
 
   -- the frame is taken, nobody shares it, and its words are 0
   pub give-end : (l₁ l′ m′ : List ℕ) → Taken f (page g) l l₁ → Changed (with-no-shares f) l₁ l′ → word-of m′ ≡ upd (word-of m) f zeros → length m′ ≡ length m → Done (giving f g) m l m′ l′
-  give-end l₁ l′ m′ t c w len = good-done (giving f g) after ok (λ k q. give-good (state-of m l) (ok .core) k q f g) give-is (c .stock) len (unfold becomes in refl) state
+  give-end l₁ l′ m′ t c w len = good-done (giving f g) after ok (λ k q. give-good (state-of m l) (ok .core) k q f g) give-is (c .ledger-sound) len (unfold becomes in refl) state
     where
       same : with-no-shares f (with-kind f (page g) (with-words (upd (word-of m) f zeros) (state-of m l))) ≡ after
       same = unfold with-no-shares with-kind with-words remade becomes in refl

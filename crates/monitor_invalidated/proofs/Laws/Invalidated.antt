@@ -12,7 +12,7 @@ use Rattle.model.proofs.Invariant.Answer.{Then, then-done, checked}
 use Rattle.model.proofs.Invariant.Invalidated.{clean-core}
 use Rattle.ledger.specs.Layout.{size-of, state-of}
 use Rattle.ledger.specs.Fields.{remade, with-dirt}
-use Rattle.ledger.specs.Stock.{Changed}
+use Rattle.ledger.specs.LedgerSound.{Changed}
 use Rattle.ledger.proofs.Laws.Fields.{guest-low}
 use Rattle.ledger.specs.Sound.{Sound}
 use Rattle.monitor_contract.specs.Answers.{Done}
@@ -39,10 +39,10 @@ module _ {m l : List ℕ} (ok : Sound m l) (g : ℕ) (h : refusal (invalidated (
 
   -- every frame is released, and then g is not dirty
   pub invalidated-end : (l₁ l′ : List ℕ) → Changed (turned-below (released g) same (size-of l)) l l₁ → Changed (with-dirt g false) l₁ l′ → Done (invalidating g) m l m l′
-  invalidated-end l₁ l′ c d = core-done (invalidating g) (clean (state-of m l) g) ok core-after invalidated-is (d .stock) refl (unfold clean in refl) state
+  invalidated-end l₁ l′ c d = core-done (invalidating g) (clean (state-of m l) g) ok core-after invalidated-is (d .ledger-sound) refl (unfold clean in refl) state
     where
       last : with-dirt g false (all-turned (released g) same (state-of m l)) ≡ clean (state-of m l) g
       last = unfold with-dirt all-turned with-rows remade clean in refl
 
       state : state-of m l′ ≡ clean (state-of m l) g
-      state = d .state m ∙ ap (with-dirt g false) (c .state m ∙ turned-all (released g) same m l (ok .stock) (unfold released in refl) refl) ∙ last
+      state = d .state m ∙ ap (with-dirt g false) (c .state m ∙ turned-all (released g) same m l (ok .ledger-sound) (unfold released in refl) refl) ∙ last

@@ -7,10 +7,10 @@ use Rattle.monitor_invalidated.proofs.do_invalidated.Statement.{stateme
 use Rattle.monitor_invalidated.proofs.do_invalidated.Tie as tie
 
 release-all-requires : tie.Need-release-all-requires
-release-all-requires c κs = c .before .before .before .pre .0 .stock
+release-all-requires c κs = c .before .before .before .pre .0 .ledger-sound
 
 set-dirty-requires : tie.Need-set-dirty-requires
-set-dirty-requires c κs = (c .before .before .before .release-all .ensures .stock, (invalidated-guest (c .before .before .before .before .before .before .before .pre .0) (c .before .before .before .before .before .before .before .args .g) (c .before .before .before .before .before .before .before .pre .1), omega arith))
+set-dirty-requires c κs = (c .before .before .before .release-all .ensures .ledger-sound, (invalidated-guest (c .before .before .before .before .before .before .before .pre .0) (c .before .before .before .before .before .before .before .args .g) (c .before .before .before .before .before .before .before .pre .1), omega arith))
 
 same-length : tie.Need-same-length
 same-length c = search needs

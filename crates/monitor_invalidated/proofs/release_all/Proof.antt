@@ -5,7 +5,7 @@ use Prim.Native.Nat.{ℕ, _-_, _≤_}
 use lib.ListN.{length}
 use Rattle.model.specs.Changes.{released}
 use Rattle.ledger.specs.Layout.{size-of}
-use Rattle.ledger.specs.Stock.{Changed}
+use Rattle.ledger.specs.LedgerSound.{Changed}
 use Rattle.monitor_contract.specs.EachFrame.{turned-below, same}
 use Rattle.monitor_contract.proofs.Laws.EachFrame.{none-turned, one-more-turned, turned-low, release-turn}
 use native.Mathlib.Omega.{arith}
@@ -25,7 +25,7 @@ loop-holds : tie.Need-loop-holds Inv-loop μ-loop
 loop-holds c = (omega arith, none-turned (released (c .before .before .before .args .g)) same (c .before .before .before .args .ledger .now) (c .before .before .before .pre), refl)
 
 release-requires : tie.Need-release-requires Inv-loop μ-loop
-release-requires c κs = (c .before .before .loop .inv .1 .stock, turned-low (released (c .before .before .before .before .before .before .args .g)) same (c .before .before .loop .f) (c .before .before .loop .inv .1) (c .before .before .loop .f) (omega (arith, c .before .before .before .size .ensures .0, c .before .loop-test .taken)))
+release-requires c κs = (c .before .before .loop .inv .1 .ledger-sound, turned-low (released (c .before .before .before .before .before .before .args .g)) same (c .before .before .loop .f) (c .before .before .loop .inv .1) (c .before .before .loop .f) (omega (arith, c .before .before .before .size .ensures .0, c .before .loop-test .taken)))
 
 add-f : tie.Need-add-f Inv-loop μ-loop
 add-f c = omega (arith, c .before .before .before .before .before .before .size .ensures .1)

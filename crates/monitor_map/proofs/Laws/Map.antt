@@ -11,7 +11,7 @@ use lib.ListN.{length}
 use borrow.Author.Tests.{le-leb, lt-leb, lt-ltb, le-ltb, ne-eqb}
 use Rattle.model.proofs.Laws.Base.{lt?}
 use Rattle.model.specs.Base.{upd2}
-use Rattle.model.specs.State.{State, page, pages, is-page, is-page-of, free-frames}
+use Rattle.model.specs.State.{State, page, page-count, is-page, is-page-of, free-frames}
 use Rattle.model.specs.Entry.{page-entry}
 use Rattle.model.specs.Translate.{Page, is-some, mapped, missing}
 use Rattle.model.specs.Changes.{Grown, grow, with-page, with-mapping}
@@ -24,7 +24,7 @@ use Rattle.model.proofs.Invariant.Answer.{core-alone, then-is, may-is}
 use Rattle.model.proofs.Invariant.MapUnmap.{address-low, map-good}
 use Rattle.ledger.specs.Layout.{size-of, first-of, exists-of, kind-of, shared-of, count-of, word-of, pick-of, state-in, state-of}
 use Rattle.ledger.specs.Fields.{remade, with-count, with-words}
-use Rattle.ledger.specs.Stock.{Changed}
+use Rattle.ledger.specs.LedgerSound.{Changed}
 use Rattle.ledger.proofs.Laws.Words.{state-words}
 use Rattle.ledger.specs.Sound.{Sound, free-of}
 use Rattle.ledger.proofs.Laws.Sound.{free-is, chosen, count-fits}
@@ -153,7 +153,7 @@ module _ {m l : List ℕ} (ok : Sound m l) (f g a r k : ℕ) (e : k ≡ refusal 
     pub plan-guest : exists-of l g ≡ true
     plan-guest = unfold state-in in all-granted .exists
 
-    pub plan-page : a / 4096 < pages
+    pub plan-page : a / 4096 < page-count
     plan-page = address-low a (all-granted .address)
 
     module _ {h t : ℕ} (way : Ended (state-of m l) g (a / 4096) h t) (b : Bool) (q : b ≡ mapped (state-of m l) g (a / 4096)) where
@@ -164,11 +164,11 @@ module _ {m l : List ℕ} (ok : Sound m l) (f g a r k : ℕ) (e : k ≡ refusal 
         pub plan-3 : c < h → map (state-of m l) f g a r (pick-of l) ≡ refuse 3
         plan-3 y =
             let w = ended-missing (state-of m l) (ok .core) g (a / 4096) h t way in
-            let u = free-is l (ok .stock) m in
+            let u = free-is l (ok .ledger-sound) m in
             map-3 (state-of m l) f g a r (pick-of l) all-granted (sym q ∙ n) (lt-leb (missing (state-of m l) g (a / 4096)) (free-frames (state-of m l)) (omega arith))
 
         pub plan-go : h ≤ c → Ready (state-of m l) f g a r t h
-        plan-go y = let u = free-is l (ok .stock) m in record { granted = all-granted; ended = way; unmapped = sym q ∙ n; enough = omega arith }
+        plan-go y = let u = free-is l (ok .ledger-sound) m in record { granted = all-granted; ended = way; unmapped = sym q ∙ n; enough = omega arith }
 
 module _ {m₀ l₀ : List ℕ} (ok : Sound m₀ l₀) {f g a r t₀ h₀ : ℕ} (ready : Ready (state-of m₀ l₀) f g a r t₀ h₀) where
   a-page : (o : ℕ) × (state-of m₀ l₀ .kind f ≡ page o)
@@ -186,7 +186,7 @@ module _ {m₀ l₀ : List ℕ} (ok : Sound m₀ l₀) {f g a r t₀ h₀ : ℕ}
       page-low = address-low a (ready .granted .address);
       serves = ready .ended .reached .serves;
       nothing-yet = λ k. elim (ready .ended .stops) [ inl z ↦ absurd (omega arith) | inr z ↦ z ];
-      enough = let u = free-is l₀ (ok .stock) m₀ in let y = ready .enough in omega arith;
+      enough = let u = free-is l₀ (ok .ledger-sound) m₀ in let y = ready .enough in omega arith;
     };
     grows = ready .ended .reached .grows (pick-of l₀);
     owner = a-page .0;
@@ -219,9 +219,9 @@ module _ {m₀ l₀ : List ℕ} (ok : Sound m₀ l₀) {f g a r t₀ h₀ : ℕ}
         k ≡ count-of l f g → Changed (with-count f g (k + 1)) l l′ → Done (mapping f g a r) m₀ l₀ m′ l′
     map-end z first y k m′ l′ ef ey ew len ek c = record {
       sound = record {
-        stock = c .stock;
+        ledger-sound = c .ledger-sound;
         ram-fits = let a = x .growing .sound .ram-fits in let b = size-is in omega arith;
-        core = then-is (map (state-of m₀ l₀) f g a r (pick-of l₀)) (state-of m′ l′) (core-alone (state-of m₀ l₀) (map (state-of m₀ l₀) f g a r (pick-of l₀)) (λ k q. map-good (state-of m₀ l₀) (ok .core) k q f g a r (pick-of l₀) (chosen l₀ (ok .stock) m₀))) made;
+        core = then-is (map (state-of m₀ l₀) f g a r (pick-of l₀)) (state-of m′ l′) (core-alone (state-of m₀ l₀) (map (state-of m₀ l₀) f g a r (pick-of l₀)) (λ k q. map-good (state-of m₀ l₀) (ok .core) k q f g a r (pick-of l₀) (chosen l₀ (ok .ledger-sound) m₀))) made;
       };
       made = made;
     }
@@ -266,10 +266,10 @@ module _ {m l m′ l′ : List ℕ} (ok : Sound m l) where
   module _ (f g a r : ℕ) (d : Done (mapping f g a r) m l m′ l′) where
     pub map-effect : Translates (Map f g a r (pick-of l)) m l m′ l′
     unfolding answer
-    map-effect = then-is (answer (state-of m l) (Map f g a r (pick-of l))) (state-of m′ l′) (rows (state-of m l) (ok .core) (Map f g a r (pick-of l)) (chosen l (ok .stock) m)) (d .made)
+    map-effect = then-is (answer (state-of m l) (Map f g a r (pick-of l))) (state-of m′ l′) (rows (state-of m l) (ok .core) (Map f g a r (pick-of l)) (chosen l (ok .ledger-sound) m)) (d .made)
 
     pub map-found : Finds g a (some (f, r)) m′ l′
-    map-found = finds-asked m′ l′ (d .sound) g a (some (f, r)) (after-map (state-of m l) (ok .core) f g a r (pick-of l) (chosen l (ok .stock) m) (state-of m′ l′) (d .made))
+    map-found = finds-asked m′ l′ (d .sound) g a (some (f, r)) (after-map (state-of m l) (ok .core) f g a r (pick-of l) (chosen l (ok .ledger-sound) m) (state-of m′ l′) (d .made))
 
 pub map-nonzero : (s : State) (f g a r : ℕ) (pick : ℕ → ℕ) → Nonzero (map s f g a r pick)
 unfolding map

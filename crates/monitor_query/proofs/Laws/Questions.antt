@@ -5,8 +5,8 @@ use mathlib.Core.List.{List}
 use Prim.Native.Nat.{ℕ, _+_, _*_, _<_, _≤_, _^_}
 use native.Mathlib.Omega.{arith}
 use borrow.Author.Tests.{lt-ltb}
-use Rattle.memory.specs.Word.{wordAt}
-use Rattle.model.specs.State.{Kind, monitor, free, table, draining-table, page, draining-page, pages, total}
+use Rattle.memory.specs.Word.{word-at}
+use Rattle.model.specs.State.{FrameKind, monitor, free, table, draining-table, page, draining-page, page-count, total}
 use Rattle.model.specs.Cache.{Access}
 use Rattle.model.specs.Bytes.{Image, access, answers}
 use Rattle.model.proofs.Invariant.Core.{in-room}
@@ -19,7 +19,7 @@ use Rattle.ledger.specs.Sound.{Sound}
 use Rattle.monitor_query.specs.declared.FrameKind.{FrameKind}
 use Rattle.monitor_query.specs.Questions.{kind-told, frame-told, translated, by-number}
 
-by-sort : (x : Kind) (n : ℕ) → by-number (sort x) (guest-in x) n ≡ kind-told x n
+by-sort : (x : FrameKind) (n : ℕ) → by-number (sort x) (guest-in x) n ≡ kind-told x n
 unfolding by-number
 by-sort monitor n = refl
 by-sort free n = refl
@@ -34,11 +34,11 @@ unfolding frame-told state-in
 frame-here m l f k g x low a b e = e ∙ rw (a, b, lt-ltb f (size-of l) low) (by-sort (kind-of l f) (total (count-of l f)))
 
 module _ (m l : List ℕ) (ok : Sound m l) where
-  pub root-room : (g : ℕ) → exists-of l g ≡ true → first-of l + root-of l g < pages
+  pub root-room : (g : ℕ) → exists-of l g ≡ true → first-of l + root-of l g < page-count
   unfolding state-in
   root-room g e = in-room (state-of m l) (ok .core) (root-of l g) (table g 3 0) (ok .core .roots g e) refl
 
-  pub first-room : first-of l + size-of l ≤ pages
+  pub first-room : first-of l + size-of l ≤ page-count
   unfolding state-in
   first-room = ok .core .room
 
@@ -47,7 +47,7 @@ module _ (m l : List ℕ) (ok : Sound m l) where
   image = record {
     base = refl;
     long = let a = ok .ram-fits in omega arith;
-    words = λ f i a b. sym (word-is m f i b) ∙ ap (wordAt m) (omega arith);
+    words = λ f i a b. sym (word-is m f i b) ∙ ap (word-at m) (omega arith);
   }
 
   -- what the host is told is what the state says, of every n that set-up admits

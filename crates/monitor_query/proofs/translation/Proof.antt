@@ -9,13 +9,13 @@ use Rattle.monitor_query.proofs.translation.Statement.{statement}
 use Rattle.monitor_query.proofs.translation.Tie as tie
 
 exists-requires : tie.Need-exists-requires
-exists-requires c κs = c .before .before .pre .stock
+exists-requires c κs = c .before .before .pre .ledger-sound
 
 size-requires : tie.Need-size-requires
-size-requires c κs = c .before .before .before .before .pre .stock
+size-requires c κs = c .before .before .before .before .pre .ledger-sound
 
 first-requires : tie.Need-first-requires
-first-requires c κs = c .before .before .before .before .before .pre .stock
+first-requires c κs = c .before .before .before .before .before .pre .ledger-sound
 
 root-address-requires : tie.Need-root-address-requires
 root-address-requires c κs = (c .before .before .before .before .before .before .pre, sym (c .before .before .before .exists .ensures) ∙ c .before .before .if1 .taken)

@@ -8,7 +8,7 @@ use lib.Dec.{eqb, ltb}
 use borrow.Author.Tests.{ltb-true}
 use Rattle.model.specs.Base.{upd, upd2}
 use Rattle.model.proofs.Laws.Base.{and-true}
-use Rattle.model.specs.State.{State, Kind, page, is-page-of}
+use Rattle.model.specs.State.{State, FrameKind, page, is-page-of}
 use Rattle.model.specs.Changes.{becomes}
 use Rattle.model.specs.Operations.{done, refusal, check, narrows, share, unshare}
 use Rattle.model.specs.Cache.{Caches}
@@ -19,13 +19,13 @@ use Rattle.model.proofs.Invariant.Share.{share-good, unshare-good}
 use Rattle.ledger.specs.Layout.{size-of, exists-of, dirty-of, root-of, kind-of, shared-of, count-of, word-of, state-in, state-of}
 use Rattle.ledger.specs.Fields.{remade, with-share}
 use Rattle.ledger.proofs.Laws.Fields.{upd-self}
-use Rattle.ledger.specs.Stock.{Changed}
+use Rattle.ledger.specs.LedgerSound.{Changed}
 use Rattle.ledger.specs.Sound.{Sound}
 use Rattle.ledger.proofs.Laws.Sound.{guest-there}
 use Rattle.monitor_contract.specs.Answers.{Operation, out, Done}
 use Rattle.monitor_contract.proofs.Laws.Answers.{through}
-use Rattle.monitor_contract.specs.Quiet.{Owned}
-use Rattle.monitor_contract.proofs.Laws.Quiet.{changed-so}
+use Rattle.monitor_contract.specs.LedgerOnly.{Owned}
+use Rattle.monitor_contract.proofs.Laws.LedgerOnly.{changed-so}
 use Rattle.monitor_share.specs.Share.{sharing, unsharing, held-back, extent}
 
 pub extent-low : (w r : ℕ) → r ≡ extent w → r ≤ 2
@@ -72,7 +72,7 @@ module _ {m l : List ℕ} (ok : Sound m l) (g f h : ℕ) where
       stays = sym (upd-self (kind-of l) f) ∙ ap (upd (kind-of l) f) (x .its-page)
 
       same : with-share f h how (state-of m l) ≡ after how
-      same = unfold with-share remade becomes state-in in ap (λ (K : ℕ → Kind). remade (state-of m l) K (upd2 (shared-of l) f h how) (count-of l) (exists-of l) (root-of l) (dirty-of l) (word-of m)) stays
+      same = unfold with-share remade becomes state-in in ap (λ (K : ℕ → FrameKind). remade (state-of m l) K (upd2 (shared-of l) f h how) (count-of l) (exists-of l) (root-of l) (dirty-of l) (word-of m)) stays
 
   module _ (w : ℕ) (r : refusal (share (state-of m l) g f h w) ≡ 0) where
     share-passed : Owned l f g h × (share (state-of m l) g f h w ≡ done (after (extent w)))

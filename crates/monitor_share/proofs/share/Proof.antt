@@ -20,7 +20,7 @@ rights-requires : tie.Need-rights-requires
 rights-requires c κs = search needs
 
 set-share-requires : tie.Need-set-share-requires
-set-share-requires c κs = (c .before .before .before .before .before .before .before .pre .stock, ((share-owned (c .before .before .before .before .before .before .before .pre) (c .before .before .before .before .before .before .before .args .g) (c .before .before .before .before .before .before .before .args .f) (c .before .before .before .before .before .before .before .args .h) (c .before .before .before .before .before .before .before .args .w) ((sym (c .before .before .before .check-share .ensures) ∙ c .before .before .if1 .left))) .low, ((share-owned (c .before .before .before .before .before .before .before .pre) (c .before .before .before .before .before .before .before .args .g) (c .before .before .before .before .before .before .before .args .f) (c .before .before .before .before .before .before .before .args .h) (c .before .before .before .before .before .before .before .args .w) ((sym (c .before .before .before .check-share .ensures) ∙ c .before .before .if1 .left))) .there, extent-low (c .before .before .before .before .before .before .before .args .w) (c .rights .result) (c .rights .ensures))))
+set-share-requires c κs = (c .before .before .before .before .before .before .before .pre .ledger-sound, ((share-owned (c .before .before .before .before .before .before .before .pre) (c .before .before .before .before .before .before .before .args .g) (c .before .before .before .before .before .before .before .args .f) (c .before .before .before .before .before .before .before .args .h) (c .before .before .before .before .before .before .before .args .w) ((sym (c .before .before .before .check-share .ensures) ∙ c .before .before .if1 .left))) .low, ((share-owned (c .before .before .before .before .before .before .before .pre) (c .before .before .before .before .before .before .before .args .g) (c .before .before .before .before .before .before .before .args .f) (c .before .before .before .before .before .before .before .args .h) (c .before .before .before .before .before .before .before .args .w) ((sym (c .before .before .before .check-share .ensures) ∙ c .before .before .if1 .left))) .there, extent-low (c .before .before .before .before .before .before .before .args .w) (c .rights .result) (c .rights .ensures))))
 
 same-length-2 : tie.Need-same-length-2
 same-length-2 c = search needs

@@ -8,7 +8,7 @@ use native.Mathlib.Nat.{div-add-mod'}
 use lib.ListN.{length}
 use Rattle.model.specs.Base.{upd, upd2}
 use Rattle.model.proofs.Laws.Base.{upd-same, upd-other}
-use Rattle.model.specs.State.{State, Kind, free, table, page, pages, is-guest, free-frames}
+use Rattle.model.specs.State.{State, FrameKind, free, table, page, page-count, is-guest, free-frames}
 use Rattle.model.specs.Entry.{empty, table-entry}
 use Rattle.model.specs.Translate.{upper, index, entry-at}
 use Rattle.model.specs.Changes.{zeros, with-table, grow}
@@ -20,7 +20,7 @@ use Rattle.model.proofs.Invariant.Choice.{free-less}
 use Rattle.model.proofs.Invariant.NewTable.{linked-core, linked-new, linked-keep}
 use Rattle.ledger.specs.Layout.{size-of, first-of, kind-of, word-of, pick-of, state-in, state-of}
 use Rattle.ledger.specs.Fields.{remade, with-kind, with-words}
-use Rattle.ledger.specs.Stock.{Taken}
+use Rattle.ledger.specs.LedgerSound.{Taken}
 use Rattle.ledger.specs.Words.{Within}
 use Rattle.ledger.proofs.Laws.Words.{state-words}
 use Rattle.ledger.specs.Sound.{Sound}
@@ -47,10 +47,10 @@ module _ {m l : List ℕ} {g v h t : ℕ} (w : Growing m l g v h t) where
   grow-low = unfold state-in in low (state-of m l) (w .sound .core) t (table g h (upper (suc h) v)) (w .serves) refl
 
   pub grow-words : (t < 2 ^ 36) × Within m t
-  grow-words = let k = grow-low in let few = w .sound .stock .few in (omega arith, within m l (w .sound) t k)
+  grow-words = let k = grow-low in let few = w .sound .ledger-sound .few in (omega arith, within m l (w .sound) t k)
 
   pub grow-room : (first f : ℕ) → first ≡ first-of l → f < size-of l → first + f < 2 ^ 36
-  grow-room first f e k = let room : first-of l + size-of l ≤ pages = unfold state-in in w .sound .core .room in omega arith
+  grow-room first f e k = let room : first-of l + size-of l ≤ page-count = unfold state-in in w .sound .core .room in omega arith
 
   pub grow-range : 0 < h → (p : ℕ) → p ≡ upper h v → p < 2 ^ 27
   grow-range k p e = go h k e
@@ -83,8 +83,8 @@ module _ {m l : List ℕ} {g v k t : ℕ} (w : Growing m l g v (suc k) t) {p u :
     guest = g;
     height = k;
     range = p;
-    above = ap (λ (x : ℕ → Kind). x t) kinds ∙ upd-other (kind-of l) u (table g k p) t apart ∙ serving ∙ ap (table g (suc k)) one-up;
-    below = ap (λ (x : ℕ → Kind). x u) kinds ∙ upd-same (kind-of l) u (table g k p);
+    above = ap (λ (x : ℕ → FrameKind). x t) kinds ∙ upd-other (kind-of l) u (table g k p) t apart ∙ serving ∙ ap (table g (suc k)) one-up;
+    below = ap (λ (x : ℕ → FrameKind). x u) kinds ∙ upd-same (kind-of l) u (table g k p);
     place = refl;
   }
 
@@ -131,7 +131,7 @@ module _ {m l : List ℕ} {g v k t : ℕ} (w : Growing m l g v (suc k) t) {p u :
 
     still : Sound m′ l′
     still = record {
-      stock = taken .changes .stock;
+      ledger-sound = taken .changes .ledger-sound;
       ram-fits = let a = w .sound .ram-fits in let b = size-is in omega arith;
       core = subst (λ (x : State). Core x) (sym state) (linked-core s (w .sound .core) t (index (suc k) v) u g k (upper (suc (suc k)) v) (upper (suc k) v) (w .serves) (omega arith) was range free-s);
     }
@@ -146,8 +146,8 @@ module _ {m l : List ℕ} {g v k t : ℕ} (w : Growing m l g v (suc k) t) {p u :
           ∙ linked-new s (w .sound .core) t (index (suc k) v) u g k (upper (suc (suc k)) v) (upper (suc k) v) (w .serves) (omega arith) was range free-s u refl (index k v);
       enough =
           let a = w .enough in
-          let b = free-is l (w .sound .stock) m in
-          let c = free-is l′ (taken .changes .stock) m′ in
+          let b = free-is l (w .sound .ledger-sound) m in
+          let c = free-is l′ (taken .changes .ledger-sound) m′ in
           let d = ap free-frames state in
           let e = fewer in
           omega arith;

@@ -22,7 +22,7 @@ use Rattle.model.proofs.Invariant.Way.{translate-at}
 use Rattle.model.proofs.Invariant.MapUnmap.{without-is, unmap-good}
 use Rattle.ledger.specs.Layout.{size-of, first-of, exists-of, kind-of, count-of, word-of, state-in, state-of}
 use Rattle.ledger.specs.Fields.{remade, with-count, with-dirt, with-words}
-use Rattle.ledger.specs.Stock.{Changed}
+use Rattle.ledger.specs.LedgerSound.{Changed}
 use Rattle.ledger.specs.Words.{Within}
 use Rattle.ledger.proofs.Laws.Words.{state-words}
 use Rattle.ledger.specs.Sound.{Sound}
@@ -103,7 +103,7 @@ module _ {m l : List ℕ} (ok : Sound m l) {a g t f : ℕ} (x : Slotted (state-o
   pub unmap-words : (t < 2 ^ 36) × Within m t
   unmap-words =
       let k : t < size-of l = unfold state-in in low (state-of m l) (ok .core) t (table g 0 (upper 1 (a / 4096))) (x .serves) refl in
-      let few = ok .stock .few in
+      let few = ok .ledger-sound .few in
       (omega arith, within m l ok t k)
 
   is-a-page : (o : ℕ) × (state-of m l .kind f ≡ page o)
@@ -128,7 +128,7 @@ module _ {m l : List ℕ} (ok : Sound m l) {a g t f : ℕ} (x : Slotted (state-o
 
   pub unmap-end : (k : ℕ) (m′ l₁ l′ : List ℕ) → word-of m′ ≡ upd2 (word-of m) t (a / 4096 % 512) 0 → length m′ ≡ length m → k ≡ count-of l f g →
       Changed (with-count f g (k - 1)) l l₁ → Changed (with-dirt g true) l₁ l′ → Done (unmapping a g) m l m′ l′
-  unmap-end k m′ l₁ l′ w len e c d = good-done (unmapping a g) after ok (λ k q. unmap-good (state-of m l) (ok .core) k q g a) made (d .stock) len (unfold without-page in refl) state
+  unmap-end k m′ l₁ l′ w len e c d = good-done (unmapping a g) after ok (λ k q. unmap-good (state-of m l) (ok .core) k q g a) made (d .ledger-sound) len (unfold without-page in refl) state
     where
       after : State
       after = without-page (state-of m l) t (a / 4096 % 512) f g

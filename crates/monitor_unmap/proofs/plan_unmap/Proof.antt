@@ -13,7 +13,7 @@ use Rattle.monitor_unmap.proofs.plan_unmap.Statement.{statement}
 use Rattle.monitor_unmap.proofs.plan_unmap.Tie as tie
 
 exists-requires : tie.Need-exists-requires
-exists-requires c κs = c .before .before .pre .stock
+exists-requires c κs = c .before .before .pre .ledger-sound
 
 returns : tie.Need-returns
 unfolding state-in
@@ -40,7 +40,7 @@ returns-4 : tie.Need-returns-4
 returns-4 c = plan-empty (c .before .before .before .before .before .before .before .before .before .before .before .pre) (c .before .before .before .before .before .before .before .before .before .before .before .args .a) (c .before .before .before .before .before .before .before .before .before .before .before .args .g) (sym (c .before .before .before .before .before .before .before .before .exists .ensures) ∙ not-false _ (c .before .before .before .before .before .before .before .if1 .left)) (sym (c .before .before .before .before .before .before .is-page-address .ensures) ∙ not-false _ (c .before .before .before .before .before .if2 .left)) (c .before .before .before .before .descend .ensures) (c .before .before .if3 .left) (c .before .entry .result) (c .before .entry .ensures) (c .if4 .taken)
 
 first-requires : tie.Need-first-requires
-first-requires c κs = c .before .before .before .before .before .before .before .before .before .before .before .pre .stock
+first-requires c κs = c .before .before .before .before .before .before .before .before .before .before .before .pre .ledger-sound
 
 sub-t12 : tie.Need-sub-t12
 sub-t12 c = (plan-slot (c .before .before .before .before .before .before .before .before .before .before .before .before .pre) (c .before .before .before .before .before .before .before .before .before .before .before .before .args .a) (c .before .before .before .before .before .before .before .before .before .before .before .before .args .g) (sym (c .before .before .before .before .before .before .before .before .before .exists .ensures) ∙ not-false _ (c .before .before .before .before .before .before .before .before .if1 .left)) (sym (c .before .before .before .before .before .before .before .is-page-address .ensures) ∙ not-false _ (c .before .before .before .before .before .before .if2 .left)) (c .before .before .before .before .before .descend .ensures) (c .before .before .before .if3 .left) (c .before .before .entry .result) (c .before .before .entry .ensures) (c .before .if4 .left) (c .first .result) (c .first .ensures)) .0

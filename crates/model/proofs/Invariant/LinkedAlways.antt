@@ -9,7 +9,7 @@ use lib.Dec.{eqb, ltb, leb}
 use borrow.Author.Tests.{eqb-true}
 use Rattle.model.proofs.Laws.Base.{lt?, and-true}
 use Rattle.model.specs.Base.{sum}
-use Rattle.model.specs.State.{State, Kind, monitor, free, table, draining-table, page, draining-page, pages}
+use Rattle.model.specs.State.{State, FrameKind, monitor, free, table, draining-table, page, draining-page, page-count}
 use Rattle.model.specs.Entry.{Entry, empty, to-table, to-page, other}
 use Rattle.model.specs.Translate.{entry-at, leaf, translate}
 use Rattle.model.specs.Operations.{done, check, started, set-up}
@@ -32,15 +32,15 @@ set-up-linked fits n b k w s e = go (fits && leb 16 n && leb n 65536 && eqb (b %
     go true e = let z : started n b k w ≡ s = cc in let y : Linked (started n b k w) = record { hangs = λ t g h p a. absurd (neither n k t (table g h p) a refl refl) } in rw z at y
     go false e = let z : _≡_ {A = ℕ} 0 1 = cc in absurd (omega arith)
 
-pub hung : {m z : Machine} → SetUp m → Run m z → Linked (z .state)
-hung {m} x r = run-keeps Linked answer-linked written r (set-up-holds x) (set-up-linked true (x .n) (x .b) (x .k) (x .word) (m .state) (x .accepted))
+pub linked-always : {m z : Machine} → SetUp m → Run m z → Linked (z .state)
+linked-always {m} x r = run-keeps Linked answer-linked written r (set-up-holds x) (set-up-linked true (x .n) (x .b) (x .k) (x .word) (m .state) (x .accepted))
   where
     written : Stores-keep Linked
     written m h l g f o x n b a = stored-linked (m .state) l f o x (λ g′ h′ p k. not-allowed (m .state) g f writing (table g′ h′ p) k refl refl (frame-allowed h g writing ((m .state .first + f) * 4096 + o) f (omega arith) a))
 
 module _ (s : State) (c : Core s) where
   -- nothing counted, nothing translates to it
-  pub uncounted : (f g : ℕ) → s .count f g ≡ 0 → (v r : ℕ) → v < pages → translate s g v ≡ some (f, r) → ⊥
+  pub uncounted : (f g : ℕ) → s .count f g ≡ 0 → (v r : ℕ) → v < page-count → translate s g v ≡ some (f, r) → ⊥
   uncounted f g z v r l e =
       let w = translate-from s g v f r e in
       let k = leaf-kind s c g v (w .0) l (w .1) in
@@ -65,11 +65,11 @@ sum-some (suc n) f l = elim (lt? 0 (f n)) [
   | inr a ↦ let b = sum-some n f (omega arith) in let b1 = b .1 in (b .0, omega arith, b .2)
 ]
 
-hit-is : (x : Kind) (e : Entry) (f g : ℕ) → 0 < hit x e f g → (p r : ℕ) × (x ≡ table g 0 p) × (e ≡ to-page f r)
+hit-is : (x : FrameKind) (e : Entry) (f g : ℕ) → 0 < hit x e f g → (p r : ℕ) × (x ≡ table g 0 p) × (e ≡ to-page f r)
 unfolding hit
 hit-is x e f g l = go x e l
   where
-    none : 0 < 0 → (x : Kind) (e : Entry) → (p r : ℕ) × (x ≡ table g 0 p) × (e ≡ to-page f r)
+    none : 0 < 0 → (x : FrameKind) (e : Entry) → (p r : ℕ) × (x ≡ table g 0 p) × (e ≡ to-page f r)
     none l x e = absurd (omega arith)
 
     no-bool : (b : Bool) → 0 < cond (b && false) 1 0 → ⊥
@@ -93,7 +93,7 @@ hit-is x e f g l = go x e l
         let f= = eqb-true f′ f (a .1) in
         (p, r, cc, cc)
 
-    go : (x : Kind) (e : Entry) → 0 < cond (is-last x g && leads e f) 1 0 → (p r : ℕ) × (x ≡ table g 0 p) × (e ≡ to-page f r)
+    go : (x : FrameKind) (e : Entry) → 0 < cond (is-last x g && leads e f) 1 0 → (p r : ℕ) × (x ≡ table g 0 p) × (e ≡ to-page f r)
     go monitor e l = none l monitor e
     go free e l = none l free e
     go (draining-table g′ n p) e l = none l (draining-table g′ n p) e
@@ -128,7 +128,7 @@ module _ (s : State) (c : Core s) (l : Linked s) where
     | inr x ↦ below d (suc h) (x .0) g (p / 512) (omega arith) (x .1)
   ]
 
-  pub last-low : (t g v : ℕ) → s .kind t ≡ table g 0 (v / 512) → v < pages
+  pub last-low : (t g v : ℕ) → s .kind t ≡ table g 0 (v / 512) → v < page-count
   last-low t g v k = let z : v / 512 / 512 / 512 / 512 ≡ 0 = below 3 0 t g (v / 512) (omega arith) k in omega arith
 
   -- a last table is where the way to its pages leads
@@ -140,7 +140,7 @@ module _ (s : State) (c : Core s) (l : Linked s) where
   entry-translates t g v f r k e = translate-at s g v t f r (last-leaf t g v k) e
 
   -- what is counted translates somewhere
-  pub mapped-somewhere : (f g : ℕ) → 0 < s .count f g → (v r t : ℕ) × (v < pages) × (s .exists g ≡ true) × (leaf s g v ≡ some t) × (translate s g v ≡ some (f, r))
+  pub mapped-somewhere : (f g : ℕ) → 0 < s .count f g → (v r t : ℕ) × (v < page-count) × (s .exists g ≡ true) × (leaf s g v ≡ some t) × (translate s g v ≡ some (f, r))
   mapped-somewhere f g n =
       let a = counted s c f g n in
       let t = a .0 in let p = a .1 in let i = a .2 in let r = a .3 in

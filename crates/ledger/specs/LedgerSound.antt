@@ -4,19 +4,19 @@ use mathlib.Core.Path.{_≡_}
 use mathlib.Core.List.{List}
 use Prim.Native.Nat.{ℕ, suc, _≤_}
 use lib.ListN.{length}
-use Rattle.model.specs.State.{State, Kind}
+use Rattle.model.specs.State.{State, FrameKind}
 use Rattle.ledger.specs.Layout.{frames, guest-rows, words-for, most-frames, size-in, pick-of, state-of}
 use Rattle.ledger.specs.Fields.{with-kind}
-use Rattle.ledger.specs.FreeSet.{FreeSet}
+use Rattle.ledger.specs.Free-set.{Free-set}
 
 -- of the length of a ledger, its frames' rows and its guests' rows
-pub record Stocked (len : ℕ) (F G : ℕ → ℕ → ℕ) : Type 0 where
+pub record Rows-sound (len : ℕ) (F G : ℕ → ℕ → ℕ) : Type 0 where
   pub length-fits : len ≡ words-for (size-in G)
   pub few : size-in G ≤ most-frames
-  pub free-set : FreeSet (size-in G) (F 0) (F 12) (F 13) (G 3 0)
+  pub free-set : Free-set (size-in G) (F 0) (F 12) (F 13) (G 3 0)
 
-abbrev pub Stock : List ℕ → Type 0
-Stock l = Stocked (length l) (frames l) (guest-rows l)
+abbrev pub Ledger-sound : List ℕ → Type 0
+Ledger-sound l = Rows-sound (length l) (frames l) (guest-rows l)
 
 -- the ledger l holds these cells
 pub record Holds (len : ℕ) (l : List ℕ) (F G : ℕ → ℕ → ℕ) : Type 0 where
@@ -25,10 +25,10 @@ pub record Holds (len : ℕ) (l : List ℕ) (F G : ℕ → ℕ → ℕ) : Type 0
   pub guests-are : guest-rows l ≡ G
 
 pub record Changed (φ : State → State) (l l′ : List ℕ) : Type 0 where
-  pub stock : Stock l′
+  pub ledger-sound : Ledger-sound l′
   pub state : (ram : List ℕ) → state-of ram l′ ≡ φ (state-of ram l)
 
 -- a free frame is taken: if it was the first in order, the others follow in theirs
-pub record Taken (f : ℕ) (k : Kind) (l l′ : List ℕ) : Type 0 where
+pub record Taken (f : ℕ) (k : FrameKind) (l l′ : List ℕ) : Type 0 where
   pub changes : Changed (with-kind f k) l l′
   pub next : f ≡ pick-of l 0 → pick-of l′ ≡ (λ i. pick-of l (suc i))

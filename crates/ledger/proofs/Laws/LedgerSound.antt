@@ -10,7 +10,7 @@ use Rattle.model.specs.State.{State}
 use Rattle.ledger.specs.Cells.{store}
 use Rattle.ledger.proofs.Laws.Cells.{length-store, cell-store, cell-apart}
 use Rattle.ledger.specs.Layout.{frames, guest-rows, most-frames, word-of, state-in, state-of}
-use Rattle.ledger.specs.Stock.{Stocked, Holds, Changed}
+use Rattle.ledger.specs.LedgerSound.{Rows-sound, Holds, Changed}
 
 pub holds-itself : (l : List ℕ) → Holds (length l) l (frames l) (guest-rows l)
 holds-itself l = record { length-is = refl; frames-are = refl; guests-are = refl }
@@ -31,17 +31,17 @@ holds-guest {len} {l} {F} {G} h j g v hj hg low = let k = h .length-is in record
   guests-are = cell-store 0 9 l j g v hj hg (omega arith) ∙ ap (λ (X : ℕ → ℕ → ℕ). upd2 X j g v) (h .guests-are);
 }
 
-pub changed : {φ : State → State} (l l′ : List ℕ) (F G : ℕ → ℕ → ℕ) → Holds (length l) l′ F G → Stocked (length l) F G →
+pub changed : {φ : State → State} (l l′ : List ℕ) (F G : ℕ → ℕ → ℕ) → Holds (length l) l′ F G → Rows-sound (length l) F G →
     ((w : ℕ → ℕ → ℕ) → state-in F G w ≡ φ (state-in (frames l) (guest-rows l) w)) → Changed φ l l′
 changed l l′ F G h s e = record {
-  stock = rw (h .length-is, h .frames-are, h .guests-are) s;
+  ledger-sound = rw (h .length-is, h .frames-are, h .guests-are) s;
   state = λ ram. rw (h .frames-are, h .guests-are) (e (word-of ram));
 }
 
 -- the same change in other words
 pub changed-as : {φ ψ : State → State} {l l′ : List ℕ} → Changed φ l l′ → ((ram : List ℕ) → φ (state-of ram l) ≡ ψ (state-of ram l)) → Changed ψ l l′
-changed-as c e = record { stock = c .stock; state = λ ram. c .state ram ∙ e ram }
+changed-as c e = record { ledger-sound = c .ledger-sound; state = λ ram. c .state ram ∙ e ram }
 
 -- one after the other
 pub changed-then : {φ ψ : State → State} {l l₁ l₂ : List ℕ} → Changed φ l l₁ → Changed ψ l₁ l₂ → Changed (λ s. ψ (φ s)) l l₂
-changed-then {φ} {ψ} a b = record { stock = b .stock; state = λ ram. b .state ram ∙ ap ψ (a .state ram) }
+changed-then {φ} {ψ} a b = record { ledger-sound = b .ledger-sound; state = λ ram. b .state ram ∙ ap ψ (a .state ram) }
