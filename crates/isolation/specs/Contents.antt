@@ -6,7 +6,7 @@ use Prim.Native.Nat.{ℕ, _+_, _*_, _<_}
 use native.Mathlib.Omega.{arith}
 use lib.ListN.{getD}
 use Rattle.memory.specs.Word.{word-at}
-use Rattle.model.specs.State.{State, FrameKind, byte}
+use Rattle.model.specs.State.{State, Frame-kind, byte}
 use Rattle.model.specs.Operations.{Out, refuse, done}
 use Rattle.model.specs.Bytes.{Image}
 use Rattle.model_theorems.specs.Contents as C
@@ -43,7 +43,7 @@ module _ {x y : Slices} (z : Slices) (begun : Begun x) (run : Run x y) (c : Call
       let after : size-of (z .ledger) ≡ begun-is begun .n = placed (begun-is begun) (are-runs begun (joined run (then (called c r a) stop)) .1) .size in
       omega arith
 
-  pub contents : (f : ℕ) (k : FrameKind) → kind-of (y .ledger) f ≡ k → C.Held k → f < size-of (y .ledger) → (o : ℕ) → o < 4096 → getD (z .ram) (f * 4096 + o) 0 ≡ getD (y .ram) (f * 4096 + o) 0
+  pub contents : (f : ℕ) (k : Frame-kind) → kind-of (y .ledger) f ≡ k → C.Held k → f < size-of (y .ledger) → (o : ℕ) → o < 4096 → getD (z .ram) (f * 4096 + o) 0 ≡ getD (y .ram) (f * 4096 + o) 0
   unfolding state-in
   contents f k is held low o inside = go (defined c (state-of (y .ram) (y .ledger)) (pick-of (y .ledger))) refl (a .answers .outcome)
     where

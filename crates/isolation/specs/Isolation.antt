@@ -6,7 +6,7 @@ use mathlib.Core.Path.{_≡_}
 use mathlib.Core.Bool.{true, false}
 use mathlib.Core.Logic.{_⊎_, _↔_}
 use Prim.Native.Nat.{ℕ, _+_, _<_, _/_, _%_}
-use Rattle.model.specs.State.{State, FrameKind, page, table, byte}
+use Rattle.model.specs.State.{State, Frame-kind, page, table, byte}
 use Rattle.model.specs.Operations.{done, create}
 use Rattle.model.specs.Cache.{Access}
 use Rattle.model.specs.Machine.{Machine, SetUp, Run, Step, Operation, Create, answer, Chooses, call, Reaches}
@@ -43,7 +43,7 @@ module _ {m z : Machine} (set-up : SetUp m) (run : Run m z) where
   beyond-shared = W.beyond-shared set-up run
 
   -- "no guest reaches a table", nor a frame of the monitor, nor a free one
-  hidden : (f : ℕ) (x : FrameKind) → z .state .kind f ≡ x → P.Hidden x → (g : ℕ) (w : Access) (a : ℕ) → a / 4096 ≡ z .state .first + f → Reaches z g w a → ⊥
+  hidden : (f : ℕ) (x : Frame-kind) → z .state .kind f ≡ x → P.Hidden x → (g : ℕ) (w : Access) (a : ℕ) → a / 4096 ≡ z .state .first + f → Reaches z g w a → ⊥
   hidden = P.hidden set-up run
 
   -- "a page changes hands only when no cache can lead to it and its contents are gone"
@@ -63,7 +63,7 @@ module _ {m z : Machine} (set-up : SetUp m) (run : Run m z) where
   new-guest = N.nothing-yet set-up run
 
   -- contents: no operation changes a byte of a page that stays with its guest
-  contents : (o : Operation) → Chooses (z .state) o → (s′ : State) → answer (z .state) o ≡ done s′ → (f : ℕ) (x : FrameKind) → z .state .kind f ≡ x → C.Held x → (i : ℕ) → byte s′ f i ≡ byte (z .state) f i
+  contents : (o : Operation) → Chooses (z .state) o → (s′ : State) → answer (z .state) o ≡ done s′ → (f : ℕ) (x : Frame-kind) → z .state .kind f ≡ x → C.Held x → (i : ℕ) → byte s′ f i ≡ byte (z .state) f i
   contents = C.contents set-up run
 
   -- inside an operation, after each single store, each guest reaches only what it was allowed to before

@@ -4,7 +4,7 @@ use mathlib.Core.Path.{_≡_, refl, subst}
 use mathlib.Core.Bool.{true, false}
 use mathlib.Core.Logic.{_⊎_}
 use Prim.Native.Nat.{ℕ, _+_, _<_, _/_}
-use Rattle.model.specs.State.{FrameKind, page, table}
+use Rattle.model.specs.State.{Frame-kind, page, table}
 use Rattle.model.specs.Cache.{Access, Reach}
 use Rattle.model.specs.Machine.{Machine}
 use Rattle.model.specs.Machine as M
@@ -46,7 +46,7 @@ module _ {x y : Slices} (begun : Begun x) (run : Run x y) where
   beyond-shared = let r = are-runs begun run in W.beyond-shared (r .0) (r .1)
 
   -- "no guest reaches a table", nor a frame of the monitor, nor a free one
-  pub hidden : (f : ℕ) (k : FrameKind) → kind-of (y .ledger) f ≡ k → P.Hidden k → (g : ℕ) (w : Access) (a : ℕ) → a / 4096 ≡ first-of (y .ledger) + f → Reaches y g w a → ⊥
+  pub hidden : (f : ℕ) (k : Frame-kind) → kind-of (y .ledger) f ≡ k → P.Hidden k → (g : ℕ) (w : Access) (a : ℕ) → a / 4096 ≡ first-of (y .ledger) + f → Reaches y g w a → ⊥
   unfolding state-in
   hidden = let r = are-runs begun run in P.hidden (r .0) (r .1)
 

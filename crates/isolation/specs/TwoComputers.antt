@@ -12,6 +12,7 @@ use Rattle.model_noninterference.specs.TwoRunsTerms.{shown, Same-bytes, answere
 use Rattle.model_noninterference.specs.ApartTerms as T
 use Rattle.model_theorems.specs.TwoRunsApart as A
 use Rattle.ledger.specs.Layout.{state-in, state-of, pick-of}
+use Rattle.isolation_runs.proofs.Laws.Slices.{joined}
 use Rattle.isolation_runs.specs.Calls.{Call, in-model}
 use Rattle.isolation_runs.proofs.Laws.Calls.{defined-is}
 use Rattle.isolation_runs.specs.Slices.{Slices, machine, Called, Stored, called, stored, Begun}
@@ -104,7 +105,7 @@ runs-are {g} hx hy (then s r) = T.then (apart-is g hx hy s) (runs-are (run-fits 
 -- The hypotheses: each half is a run as in all other theorems; and they can be met, see BesideItself.
 pub are-runs : {g : ℕ} {R R′ : T.Frames} {x y x′ y′ : Slices} → Runs-apart g R x y R′ x′ y′ → S.Run x x′ × S.Run y y′
 are-runs stop = (S.stop, S.stop)
-are-runs (then s r) = let more = are-runs r in (S.joined (firsts s) (more .0), S.joined (seconds s) (more .1))
+are-runs (then s r) = let more = are-runs r in (joined (firsts s) (more .0), joined (seconds s) (more .1))
 
 module _ {g : ℕ} {R : T.Frames} {x y x′ y′ : Slices} (first : Begun x) (second : Begun y) (runs : Runs-apart g T.no-frames x y R x′ y′) where
   in-the-model : T.Runs-apart g T.no-frames (machine x) (machine y) R (machine x′) (machine y′)

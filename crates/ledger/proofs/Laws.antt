@@ -1,7 +1,7 @@
 -- Laws, for proofs.
 pub mod Fields
 pub mod Cells
-pub mod Free-set
+pub mod FreeSet
 pub mod Kinds
 pub mod Words
 pub mod Sound

@@ -2,10 +2,10 @@
 use mathlib.Core.Bool.{cond}
 use Prim.Native.Nat.{ℕ}
 use lib.Dec.{eqb}
-use Rattle.model.specs.State.{FrameKind, monitor, free, table, draining-table, page, draining-page}
+use Rattle.model.specs.State.{Frame-kind, monitor, free, table, draining-table, page, draining-page}
 
 -- The guest of a kind, 0 where it has none.
-abbrev pub guest-in : FrameKind → ℕ
+abbrev pub guest-in : Frame-kind → ℕ
 guest-in monitor = 0
 guest-in free = 0
 guest-in (table g h p) = g

@@ -4,10 +4,10 @@ use mathlib.Core.Path.{_≡_}
 use mathlib.Core.List.{List}
 use Prim.Native.Nat.{ℕ, suc, _≤_}
 use lib.ListN.{length}
-use Rattle.model.specs.State.{State, FrameKind}
+use Rattle.model.specs.State.{State, Frame-kind}
 use Rattle.ledger.specs.Layout.{frames, guest-rows, words-for, most-frames, size-in, pick-of, state-of}
 use Rattle.ledger.specs.Fields.{with-kind}
-use Rattle.ledger.specs.Free-set.{Free-set}
+use Rattle.ledger.specs.FreeSet.{Free-set}
 
 -- of the length of a ledger, its frames' rows and its guests' rows
 pub record Rows-sound (len : ℕ) (F G : ℕ → ℕ → ℕ) : Type 0 where
@@ -29,6 +29,6 @@ pub record Changed (φ : State → State) (l l′ : List ℕ) : Type 0 where
   pub state : (ram : List ℕ) → state-of ram l′ ≡ φ (state-of ram l)
 
 -- a free frame is taken: if it was the first in order, the others follow in theirs
-pub record Taken (f : ℕ) (k : FrameKind) (l l′ : List ℕ) : Type 0 where
+pub record Taken (f : ℕ) (k : Frame-kind) (l l′ : List ℕ) : Type 0 where
   pub changes : Changed (with-kind f k) l l′
   pub next : f ≡ pick-of l 0 → pick-of l′ ≡ (λ i. pick-of l (suc i))

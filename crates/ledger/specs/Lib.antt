@@ -1,7 +1,7 @@
 -- Layout says how the state lies in the ledger, Sound what every operation counts on; Fields and Stock are the words of the contracts; the rest are laws.
 pub mod Cells
 pub mod Layout
-pub mod Free-set
+pub mod FreeSet
 pub mod Fields
 pub mod Kinds
 pub mod Words

@@ -6,7 +6,7 @@ use mathlib.Core.Logic.{_⊎_}
 use Prim.Native.Nat.{ℕ, zero, suc, _+_, _*_, _≤_, _<_, _/_, _%_}
 use lib.Dec.{eqb}
 use Rattle.model.specs.Base.{sum}
-use Rattle.model.specs.State.{State, FrameKind, monitor, free, table, draining-table, page, draining-page, is-guest, page-count}
+use Rattle.model.specs.State.{State, Frame-kind, monitor, free, table, draining-table, page, draining-page, is-guest, page-count}
 use Rattle.model.specs.Entry.{Entry, empty, to-table, to-page, other}
 use Rattle.model.specs.Translate.{entry-at}
 use Rattle.model.specs.Operations.{shares}
@@ -27,15 +27,15 @@ module _ (T : (t h q : ℕ) → Type 0) (P : (f r : ℕ) → Type 0) where
   Leads-to h q (other x) = ⊥
 
 -- so in g's tables
-abbrev pub Fits : (kind : ℕ → FrameKind) (M : (g f r : ℕ) → Type 0) (g : ℕ) (h q : ℕ) → Entry → Type 0
+abbrev pub Fits : (kind : ℕ → Frame-kind) (M : (g f r : ℕ) → Type 0) (g : ℕ) (h q : ℕ) → Entry → Type 0
 Fits kind M g = Leads-to (λ t h q. kind t ≡ table g h q) (M g)
 
 -- and in those that drain for g
-abbrev pub Stale : (kind : ℕ → FrameKind) (g : ℕ) (h q : ℕ) → Entry → Type 0
+abbrev pub Stale : (kind : ℕ → Frame-kind) (g : ℕ) (h q : ℕ) → Entry → Type 0
 Stale kind g = Leads-to (λ t h q. kind t ≡ draining-table g h q) (λ f r. kind f ≡ draining-page g)
 
 -- the places that lead to f from g's tables
-abbrev pub is-last : FrameKind → ℕ → Bool
+abbrev pub is-last : Frame-kind → ℕ → Bool
 is-last monitor g = false
 is-last free g = false
 is-last (table h n p) g = eqb h g && eqb n 0
@@ -49,7 +49,7 @@ leads (to-table t) f = false
 leads (to-page f′ r) f = eqb f′ f
 leads (other x) f = false
 
-unfoldable pub hit : FrameKind → Entry → (f g : ℕ) → ℕ
+unfoldable pub hit : Frame-kind → Entry → (f g : ℕ) → ℕ
 hit x e f g = cond (is-last x g && leads e f) 1 0
 
 unfoldable pub places : State → (f g : ℕ) → ℕ

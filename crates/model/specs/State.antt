@@ -20,10 +20,10 @@ page-count = 68719476736
 -- What a frame is. The height of a table is 3 at the root and 0 where the pages are (level 3 - height).
 -- Its range p: it serves the pages v of the guest with v / 512^(height + 1) = p.
 -- A frame that drains was a table or a page of the guest; its words are still what they were.
-pub data FrameKind : Type 0 where
-  monitor free : FrameKind
-  table draining-table : (guest height range : ℕ) → FrameKind
-  page draining-page : (guest : ℕ) → FrameKind
+pub data Frame-kind : Type 0 where
+  monitor free : Frame-kind
+  table draining-table : (guest height range : ℕ) → Frame-kind
+  page draining-page : (guest : ℕ) → Frame-kind
 
 pub record State : Type 0 where
   -- n, the number of frames
@@ -31,7 +31,7 @@ pub record State : Type 0 where
   -- the number of RAM's first frame in physical memory: b / 4096
   pub first : ℕ
   -- of a frame
-  pub kind : ℕ → FrameKind
+  pub kind : ℕ → Frame-kind
   -- frame, guest: 0 not shared, 1 for reading, 2 for writing too
   pub shared : ℕ → ℕ → ℕ
   -- frame, guest: the number of places where the guest's tables lead to it
@@ -75,7 +75,7 @@ unfoldable pub byte : State → ℕ → ℕ → ℕ
 byte s f o = byte-of (o % 8) (s .word f (o / 8))
 
 -- the number of what a frame is, as the ledger stores it
-abbrev pub sort : FrameKind → ℕ
+abbrev pub sort : Frame-kind → ℕ
 sort monitor = 0
 sort free = 1
 sort (table g h p) = 2
@@ -84,7 +84,7 @@ sort (page g) = 4
 sort (draining-page g) = 5
 
 -- tests of what a frame is
-abbrev pub is-free : FrameKind → Bool
+abbrev pub is-free : Frame-kind → Bool
 is-free monitor = false
 is-free free = true
 is-free (table h n p) = false
@@ -92,7 +92,7 @@ is-free (draining-table h n p) = false
 is-free (page h) = false
 is-free (draining-page h) = false
 
-abbrev pub is-page : FrameKind → Bool
+abbrev pub is-page : Frame-kind → Bool
 is-page monitor = false
 is-page free = false
 is-page (table h n p) = false
@@ -100,7 +100,7 @@ is-page (draining-table h n p) = false
 is-page (page h) = true
 is-page (draining-page h) = false
 
-abbrev pub is-page-of : FrameKind → ℕ → Bool
+abbrev pub is-page-of : Frame-kind → ℕ → Bool
 is-page-of monitor g = false
 is-page-of free g = false
 is-page-of (table h n p) g = false
@@ -109,7 +109,7 @@ is-page-of (page h) g = eqb h g
 is-page-of (draining-page h) g = false
 
 -- it holds a table, in use or draining
-abbrev pub tabled : FrameKind → Bool
+abbrev pub tabled : Frame-kind → Bool
 tabled monitor = false
 tabled free = false
 tabled (table h n p) = true

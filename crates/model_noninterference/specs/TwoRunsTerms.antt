@@ -4,13 +4,13 @@ use mathlib.Core.Path.{_≡_}
 use mathlib.Core.Bool.{Bool, true, false, _||_}
 use Prim.Native.Nat.{ℕ, _+_, _*_, _<_}
 use lib.Dec.{eqb, leb}
-use Rattle.model.specs.State.{State, FrameKind, monitor, free, table, draining-table, page, draining-page, byte}
+use Rattle.model.specs.State.{State, Frame-kind, monitor, free, table, draining-table, page, draining-page, byte}
 use Rattle.model.specs.Operations.{Out, refuse, done}
 use Rattle.model.specs.Cache.{writing}
 use Rattle.model.specs.Machine.{Machine, Operation, Create, Give, Take, Map, Unmap, Share, Unshare, Destroy, Invalidated, answer, Chooses, call, write, SetUp, Reaches}
 
 -- guest g may read a frame of this kind that is shared with it so (0 not): its own page, a page that is shared with it, a page that drains for it
-abbrev pub reads : (g : ℕ) → FrameKind → (how : ℕ) → Bool
+abbrev pub reads : (g : ℕ) → Frame-kind → (how : ℕ) → Bool
 reads g monitor how = false
 reads g free how = false
 reads g (table h n p) how = false

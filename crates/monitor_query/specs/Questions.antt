@@ -6,7 +6,7 @@ use lib.Dec.{eqb, ltb}
 use Rattle.walk.specs.declared.Answer.{Answer}
 use Rattle.walk.specs.declared.Answer.the-variants.{Refused}
 use Rattle.walk.specs.Both.{answer-2}
-use Rattle.model.specs.State.{State, FrameKind, monitor, free, table, draining-table, page, draining-page, is-guest, total}
+use Rattle.model.specs.State.{State, Frame-kind, monitor, free, table, draining-table, page, draining-page, is-guest, total}
 use Rattle.model.specs.Bytes.{access}
 use Rattle.ledger.specs.Layout.{size-of, first-of, root-of, exists-of}
 use Rattle.monitor_query.specs.declared.FrameKind.{FrameKind}
@@ -14,7 +14,7 @@ use Rattle.monitor_query.specs.declared.FrameKind.the-variants.{Outside,
 use Rattle.monitor_query.specs.declared.GuestKind.{GuestKind}
 use Rattle.monitor_query.specs.declared.GuestKind.the-variants.{Nobody, Absent, Present}
 
-abbrev pub kind-told : FrameKind → (mapped : ℕ) → FrameKind
+abbrev pub kind-told : Frame-kind → (mapped : ℕ) → FrameKind
 kind-told monitor n = Monitor
 kind-told free n = Free
 kind-told (table g h p) n = Table g

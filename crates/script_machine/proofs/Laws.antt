@@ -10,7 +10,7 @@ use lib.Seq.{length-take-le, length-front, take-at, drop-at, take-set-lt}
 use borrow.Author.Tests.{leb-true, ltb-true, eqb-true, ne-eqb}
 use Rattle.memory.specs.Word.{stored-at, cleared-at}
 use Rattle.memory.proofs.Laws.Words.{length-kept, cleared-length}
-use Rattle.model.specs.State.{FrameKind, monitor, free, table, draining-table, page, draining-page, tabled}
+use Rattle.model.specs.State.{Frame-kind, monitor, free, table, draining-table, page, draining-page, tabled}
 use Rattle.model.specs.State.{sort}
 use Rattle.ledger.specs.Layout.{words-for, first-of, kind-of}
 use Rattle.ledger.specs.Sound.{Sound}
@@ -75,7 +75,7 @@ allowed lent words n b k e =
     }
 
 -- a frame that holds a table, by the number of what it is
-by-sort : (x : FrameKind) → tabled x ≡ (eqb (sort x) 2 || eqb (sort x) 3)
+by-sort : (x : Frame-kind) → tabled x ≡ (eqb (sort x) 2 || eqb (sort x) 3)
 by-sort monitor = refl
 by-sort free = refl
 by-sort (table g h p) = refl

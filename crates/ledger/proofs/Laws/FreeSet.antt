@@ -8,7 +8,7 @@ use lib.Dec.{eqb, ltb}
 use borrow.Author.Tests.{lt-ltb, le-ltb, eqb-true}
 use Rattle.model.proofs.Laws.Base.{lt?, sum-cong, sum-none, sum-point}
 use Rattle.model.specs.Base.{sum}
-use Rattle.ledger.specs.Free-set.{Free-set}
+use Rattle.ledger.specs.FreeSet.{Free-set}
 
 -- The set has as many frames as are free.
 module _ (n : ℕ) (K D P : ℕ → ℕ) (count : ℕ) (s : Free-set n K D P count) where

@@ -7,7 +7,7 @@ use native.Mathlib.Omega.{arith}
 use lib.Dec.{eqb, ltb}
 use borrow.Author.Tests.{lt-ltb, le-ltb, ne-eqb}
 use Rattle.model.proofs.Laws.Base.{eq?, lt?}
-use Rattle.model.specs.State.{FrameKind, monitor, free, table, draining-table, page, draining-page, is-free, is-page, is-page-of}
+use Rattle.model.specs.State.{Frame-kind, monitor, free, table, draining-table, page, draining-page, is-free, is-page, is-page-of}
 use Rattle.model.specs.Changes.{drained, released}
 use Rattle.model.specs.State.{sort}
 use Rattle.ledger.specs.Layout.{kind-at, size-in, kind-in}
@@ -23,7 +23,7 @@ module _ (g h p : ℕ) where
   abbrev Other : ℕ → Type 0
   Other k = (k ≡ 1 → ⊥) × (k ≡ 2 → ⊥) × (k ≡ 3 → ⊥) × (k ≡ 4 → ⊥) × (k ≡ 5 → ⊥)
 
-  each : (P : ℕ → FrameKind → Type 0) → P 1 free → P 2 (table g h p) → P 3 (draining-table g h p) → P 4 (page g) → P 5 (draining-page g) →
+  each : (P : ℕ → Frame-kind → Type 0) → P 1 free → P 2 (table g h p) → P 3 (draining-table g h p) → P 4 (page g) → P 5 (draining-page g) →
       ((k : ℕ) → Other k → P k monitor) → (k : ℕ) → P k (kind-at k g h p)
   unfolding kind-at
   each P a b c d e o k = elim (eq? k 1) [
@@ -59,7 +59,7 @@ module _ (g h p : ℕ) where
       yes true = refl
       yes false = refl
 
-  unless : (x y : FrameKind) (b : Bool) (k : ℕ) → (cond b k 0 ≡ k → ⊥) → cond b x y ≡ y
+  unless : (x y : Frame-kind) (b : Bool) (k : ℕ) → (cond b k 0 ≡ k → ⊥) → cond b x y ≡ y
   unless x y true k ne = absurd (ne refl)
   unless x y false k ne = refl
 
@@ -100,7 +100,7 @@ module _ (F G : ℕ → ℕ → ℕ) (f : ℕ) (low : f < size-in G) where
   page-here = ap is-page (kind-here F G f low) ∙ page-test (F 1 f) (F 2 f) (F 3 f) (F 0 f)
 
   pub page-of-here : (g : ℕ) → is-page-of (kind-in F G f) g ≡ eqb (kind-for F f g) 4
-  page-of-here g = ap (λ (x : FrameKind). is-page-of x g) (kind-here F G f low) ∙ page-of-test (F 1 f) (F 2 f) (F 3 f) g (F 0 f)
+  page-of-here g = ap (λ (x : Frame-kind). is-page-of x g) (kind-here F G f low) ∙ page-of-test (F 1 f) (F 2 f) (F 3 f) g (F 0 f)
 
   pub sort-here : sort (kind-in F G f) ≡ cond (ltb 5 (F 0 f)) 0 (F 0 f)
   sort-here = ap sort (kind-here F G f low) ∙ sort-test (F 1 f) (F 2 f) (F 3 f) (F 0 f)

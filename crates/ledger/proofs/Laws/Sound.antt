@@ -10,14 +10,14 @@ use lib.Dec.{eqb}
 use Rattle.model.proofs.Laws.Base.{eq?, sum-cong, sum-none, sum-point}
 use Rattle.model.specs.Base.{upd, sum}
 use Rattle.model.proofs.Laws.Base.{upd-same, upd-at, upd-other}
-use Rattle.model.specs.State.{FrameKind, free, page, is-free, is-guest, free-frames}
+use Rattle.model.specs.State.{Frame-kind, free, page, is-free, is-guest, free-frames}
 use Rattle.model.specs.Entry.{Entry}
 use Rattle.model.specs.Translate.{entry-at}
 use Rattle.model.specs.Changes.{Choice}
 use Rattle.model.specs.Invariant.{hit, places, is-last, leads}
 use Rattle.model.proofs.Invariant.Core.{low as core-low}
 use Rattle.ledger.specs.Layout.{frames, guest-rows, kind-at, pick-in, state-in, size-of, kind-of, exists-of, count-of, pick-of, state-of}
-use Rattle.ledger.proofs.Laws.Free-set.{free-number, free-at, once-at}
+use Rattle.ledger.proofs.Laws.FreeSet.{free-number, free-at, once-at}
 use Rattle.ledger.proofs.Laws.Kinds.{free-here, kind-here}
 use Rattle.ledger.specs.LedgerSound.{Ledger-sound}
 use Rattle.ledger.specs.Words.{Within}
@@ -66,7 +66,7 @@ sum-most (suc n) m f h = let a = sum-most n m f h in let b = h n in add-more n m
     add-more : (n m a b : ℕ) → a ≤ n * m → b ≤ m → a + b ≤ suc n * m
     add-more n m a b x y = let e = suc-mul n m in omega arith
 
-hit-most : (x : FrameKind) (e : Entry) (f g : ℕ) → hit x e f g ≤ 1
+hit-most : (x : Frame-kind) (e : Entry) (f g : ℕ) → hit x e f g ≤ 1
 unfolding hit
 hit-most x e f g = go (is-last x g && leads e f)
   where

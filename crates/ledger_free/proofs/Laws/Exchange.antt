@@ -8,7 +8,7 @@ use borrow.Author.Tests.{lt-ltb, le-ltb, eq-eqb, ne-eqb, ltb-true, ltb-false}
 use Rattle.model.proofs.Laws.Base.{eq?, lt?}
 use Rattle.model.specs.Base.{upd}
 use Rattle.model.proofs.Laws.Base.{upd-at, upd-other}
-use Rattle.ledger.specs.Free-set.{Free-set}
+use Rattle.ledger.specs.FreeSet.{Free-set}
 
 -- D when frame f and the one at place q have changed places; P then is the same with the two exchanged
 abbrev pub swapped : (D P : ℕ → ℕ) (f q : ℕ) → ℕ → ℕ

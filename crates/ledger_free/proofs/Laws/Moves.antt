@@ -9,13 +9,13 @@ use lib.Dec.{eqb}
 use lib.ListN.{length}
 use borrow.Author.Tests.{eq-eqb, eqb-true}
 use Rattle.model.specs.Base.{upd, upd2}
-use Rattle.model.specs.State.{FrameKind, free, table, page, is-free}
+use Rattle.model.specs.State.{Frame-kind, free, table, page, is-free}
 use Rattle.model.specs.Changes.{drained, released}
 use Rattle.ledger.specs.Cells.{store}
 use Rattle.ledger.specs.Layout.{Row, frames, guest-rows, most-frames, kind-at, size-in, pick-in, pick-of, size-of, kind-of, state-in, state-of}
 use Rattle.ledger.proofs.Laws.Kinds.{kind-here, free-here, stays, remains}
 use Rattle.ledger.specs.Kinds.{kind-for}
-use Rattle.ledger.specs.Free-set.{Free-set}
+use Rattle.ledger.specs.FreeSet.{Free-set}
 use Rattle.ledger.specs.Fields.{remade, with-kind, with-kind-by}
 use Rattle.ledger.specs.LedgerSound.{Rows-sound, Ledger-sound, Holds, Changed, Taken}
 use Rattle.ledger.proofs.Laws.LedgerSound.{holds-itself, holds-frame, holds-guest, changed, changed-as}
@@ -167,15 +167,15 @@ module _ (l : List ℕ) (s : Ledger-sound l) (f : ℕ) (hf : f < size-of l) wher
         (λ w. state-kind F (upd2 F 0 f k) G w f k (F 1 f) (F 2 f) (F 3 f) hf refl (sym (upd-self (F 1) f)) (sym (upd-self (F 2) f)) (sym (upd-self (F 3) f)) (aside aside-none 0 f k (inl (omega arith)))))
 
   -- what f is turned by φ: as it was, or anew
-  turned : (φ : FrameKind → FrameKind) (k : FrameKind) (l′ : List ℕ) → φ (kind-of l f) ≡ k → Changed (with-kind f k) l l′ → Changed (with-kind-by f φ) l l′
-  turned φ k l′ e c = changed-as c (λ ram. unfold with-kind-by state-in in ap (λ (x : FrameKind). with-kind f x (state-of ram l)) (sym e))
+  turned : (φ : Frame-kind → Frame-kind) (k : Frame-kind) (l′ : List ℕ) → φ (kind-of l f) ≡ k → Changed (with-kind f k) l l′ → Changed (with-kind-by f φ) l l′
+  turned φ k l′ e c = changed-as c (λ ram. unfold with-kind-by state-in in ap (λ (x : Frame-kind). with-kind f x (state-of ram l)) (sym e))
 
-  unturned : (φ : FrameKind → FrameKind) → φ (kind-of l f) ≡ kind-of l f → Changed (with-kind-by f φ) l l
+  unturned : (φ : Frame-kind → Frame-kind) → φ (kind-of l f) ≡ kind-of l f → Changed (with-kind-by f φ) l l
   unturned φ e = record { ledger-sound = s; state = λ ram. sym (same ram) }
     where
       same : (ram : List ℕ) → with-kind-by f φ (state-of ram l) ≡ state-of ram l
       same ram = unfold with-kind-by with-kind remade state-in in
-          ap (λ (K : ℕ → FrameKind). remade (state-of ram l) K (state-of ram l .shared) (state-of ram l .count) (state-of ram l .exists) (state-of ram l .root) (state-of ram l .dirty) (state-of ram l .word)) (ap (upd (kind-of l) f) e ∙ upd-self (kind-of l) f)
+          ap (λ (K : ℕ → Frame-kind). remade (state-of ram l) K (state-of ram l .shared) (state-of ram l .count) (state-of ram l .exists) (state-of ram l .root) (state-of ram l .dirty) (state-of ram l .word)) (ap (upd (kind-of l) f) e ∙ upd-self (kind-of l) f)
 
   -- by the number k that the code has read of f for guest g
   module _ (g k : ℕ) (ek : k ≡ kind-for F f g) where
@@ -186,7 +186,7 @@ module _ (l : List ℕ) (s : Ledger-sound l) (f : ℕ) (hf : f < size-of l) wher
         go true x = (refl, x)
         go false x = absurd (omega arith)
 
-    known : {A : Type 0} (φ : FrameKind → A) (j : ℕ) (y : A) → k ≡ j → 0 < j → (eqb (F 1 f) g ≡ true → φ (kind-at j (F 1 f) (F 2 f) (F 3 f)) ≡ y) → φ (kind-of l f) ≡ y
+    known : {A : Type 0} (φ : Frame-kind → A) (j : ℕ) (y : A) → k ≡ j → 0 < j → (eqb (F 1 f) g ≡ true → φ (kind-at j (F 1 f) (F 2 f) (F 3 f)) ≡ y) → φ (kind-of l f) ≡ y
     known φ j y e pos x = let a = is-it j e pos in rw (kind-here F G f hf, a .1) (x (a .0))
 
     pub drain-none : (k ≡ 2 → ⊥) → (k ≡ 4 → ⊥) → Changed (with-kind-by f (drained g)) l l

@@ -18,7 +18,7 @@ use Rattle.model.specs.Operations.{at-first, started}
 use Rattle.ledger.specs.Cells.{cell, store}
 use Rattle.ledger.proofs.Laws.Cells.{column-other}
 use Rattle.ledger.specs.Layout.{frames, words-for, most-frames, kind-at, size-in, first-in, kind-in, per-guest, share-part, count-part, exists-in, dirty-in, root-in, pick-in, word-of, state-in}
-use Rattle.ledger.specs.Free-set.{Free-set}
+use Rattle.ledger.specs.FreeSet.{Free-set}
 use Rattle.ledger.specs.LedgerSound.{Rows-sound, Holds}
 use Rattle.ledger.proofs.Laws.LedgerSound.{holds-frame, holds-guest}
 use Rattle.ledger.proofs.Laws.Fields.{guest-low}

@@ -7,7 +7,7 @@ use lib.Dec.{eqb}
 use Rattle.model.proofs.Laws.Base.{eq?}
 use Rattle.model.specs.Base.{upd}
 use Rattle.model.proofs.Laws.Base.{upd-at, upd-other}
-use Rattle.model.specs.State.{State, FrameKind, monitor, table, draining-table, page, draining-page}
+use Rattle.model.specs.State.{State, Frame-kind, monitor, table, draining-table, page, draining-page}
 use Rattle.model.specs.Entry.{to-page, entry}
 use Rattle.model.specs.Translate.{entry-at}
 use Rattle.model.specs.Changes.{becomes}
@@ -19,10 +19,10 @@ use Rattle.model.proofs.Invariant.Core.{fits-keep, stale-keep}
 use Rattle.model.proofs.Invariant.Counts.{places-cong, hit-plain}
 
 -- no table, not draining, not the monitor's
-abbrev pub plain : FrameKind → Type 0
+abbrev pub plain : Frame-kind → Type 0
 plain x = (eqb (sort x) 2 ≡ false) × (eqb (sort x) 3 ≡ false) × (eqb (sort x) 5 ≡ false) × (eqb (sort x) 0 ≡ false)
 
-module _ (s : State) (c : Core s) (f : ℕ) (x y : FrameKind) (w sh : ℕ → ℕ → ℕ) (hf : s .kind f ≡ x) (px : plain x)
+module _ (s : State) (c : Core s) (f : ℕ) (x y : Frame-kind) (w sh : ℕ → ℕ → ℕ) (hf : s .kind f ≡ x) (px : plain x)
     (y2 : eqb (sort y) 2 ≡ false) (y3 : eqb (sort y) 3 ≡ false) (hw : (t : ℕ) → (t ≡ f → ⊥) → (i : ℕ) → w t i ≡ s .word t i) where
   table-not : (t g h p : ℕ) → s .kind t ≡ table g h p → t ≡ f → ⊥
   table-not t g h p a e = clash {x = x} {y = table g h p} (sym hf ∙ ap (s .kind) (sym e) ∙ a) (px .0)

@@ -6,19 +6,19 @@ use native.Mathlib.Omega.{arith}
 use Rattle.model.specs.Base.{upd, sum}
 use Rattle.model.proofs.Laws.Base.{upd-same, upd-other}
 use Rattle.model.proofs.Laws.Base.{sum-point}
-use Rattle.model.specs.State.{State, FrameKind, free, table, is-free, free-frames}
+use Rattle.model.specs.State.{State, Frame-kind, free, table, is-free, free-frames}
 use Rattle.model.specs.Changes.{Choice, with-table}
 use Rattle.model.specs.Invariant.{Core}
 use Rattle.model.proofs.Invariant.Core.{low}
 
-abbrev pub one-if-free : FrameKind → ℕ
+abbrev pub one-if-free : Frame-kind → ℕ
 one-if-free x = cond (is-free x) 1 0
 
 -- a free frame becomes something else
-pub free-less : (n : ℕ) (kind : ℕ → FrameKind) (t : ℕ) (y : FrameKind) → t < n → kind t ≡ free → is-free y ≡ false →
+pub free-less : (n : ℕ) (kind : ℕ → Frame-kind) (t : ℕ) (y : Frame-kind) → t < n → kind t ≡ free → is-free y ≡ false →
     sum n (λ f. one-if-free (upd kind t y f)) + 1 ≡ sum n (λ f. one-if-free (kind f))
 free-less n kind t y l e z =
-    let a = sum-point n (λ f. one-if-free (upd kind t y f)) (λ f. one-if-free (kind f)) t l (λ j ne. ap (λ (x : FrameKind). one-if-free x) (upd-other kind t y j ne)) in
+    let a = sum-point n (λ f. one-if-free (upd kind t y f)) (λ f. one-if-free (kind f)) t l (λ j ne. ap (λ (x : Frame-kind). one-if-free x) (upd-other kind t y j ne)) in
     let b : one-if-free (kind t) ≡ 1 = rw e in
     let d : one-if-free (upd kind t y t) ≡ 0 = rw (upd-same kind t y, z) in
     omega arith

@@ -7,14 +7,14 @@ use lib.Dec.{eqb}
 use borrow.Author.Tests.{eq-eqb, ne-eqb}
 use Rattle.model.specs.Base.{sum}
 use Rattle.model.proofs.Laws.Base.{sum-cong, sum-zero, sum2-point}
-use Rattle.model.specs.State.{State, FrameKind, monitor, free, table, draining-table, page, draining-page}
+use Rattle.model.specs.State.{State, Frame-kind, monitor, free, table, draining-table, page, draining-page}
 use Rattle.model.specs.Entry.{Entry, empty, to-page}
 use Rattle.model.specs.Translate.{entry-at}
 use Rattle.model.specs.State.{sort}
 use Rattle.model.proofs.Invariant.Kinds.{clash}
 use Rattle.model.specs.Invariant.{is-last, leads, hit, places}
 
-pub hit-page : (x : FrameKind) (e : Entry) (f g p r : ℕ) → x ≡ table g 0 p → e ≡ to-page f r → hit x e f g ≡ 1
+pub hit-page : (x : Frame-kind) (e : Entry) (f g p r : ℕ) → x ≡ table g 0 p → e ≡ to-page f r → hit x e f g ≡ 1
 unfolding hit
 hit-page x e f g p r a b = rw (a, b) (rw (eq-eqb g g refl, eq-eqb f f refl))
 
@@ -22,11 +22,11 @@ neither : (b : Bool) → _≡_ {A = ℕ} (cond (b && false) 1 0) 0
 neither true = refl
 neither false = refl
 
-pub hit-else : (f f′ r : ℕ) (x : FrameKind) (g : ℕ) → (f′ ≡ f → ⊥) → hit x (to-page f′ r) f g ≡ 0
+pub hit-else : (f f′ r : ℕ) (x : Frame-kind) (g : ℕ) → (f′ ≡ f → ⊥) → hit x (to-page f′ r) f g ≡ 0
 unfolding hit
 hit-else f f′ r x g ne = rw (ne-eqb f′ f ne) (neither (is-last x g))
 
-pub hit-empty : (x : FrameKind) (f g : ℕ) → hit x empty f g ≡ 0
+pub hit-empty : (x : Frame-kind) (f g : ℕ) → hit x empty f g ≡ 0
 unfolding hit
 hit-empty x f g = neither (is-last x g)
 
@@ -43,7 +43,7 @@ hit-high g h p e f g′ = rw (ne-eqb (suc h) 0 (λ z. omega arith)) (go (eqb g g
     go false x = refl
 
 -- only tables lead anywhere
-pub hit-plain : (x : FrameKind) (e : Entry) (f g : ℕ) → eqb (sort x) 2 ≡ false → hit x e f g ≡ 0
+pub hit-plain : (x : Frame-kind) (e : Entry) (f g : ℕ) → eqb (sort x) 2 ≡ false → hit x e f g ≡ 0
 unfolding hit
 hit-plain monitor e f g q = refl
 hit-plain free e f g q = refl

@@ -8,7 +8,7 @@ use borrow.Author.Tests.{eqb-true, eq-eqb, ne-eqb}
 use Rattle.model.proofs.Laws.Base.{eq?, and-true, or-right, sum-none, all-true}
 use Rattle.model.specs.Base.{upd, sum, all}
 use Rattle.model.proofs.Laws.Base.{upd-other, upd-not}
-use Rattle.model.specs.State.{State, FrameKind, monitor, free, table, draining-table, page, draining-page, is-page, is-page-of, total}
+use Rattle.model.specs.State.{State, Frame-kind, monitor, free, table, draining-table, page, draining-page, is-page, is-page-of, total}
 use Rattle.model.specs.Entry.{Entry, empty, to-table, to-page, other}
 use Rattle.model.specs.Translate.{entry-at}
 use Rattle.model.specs.Changes.{drained, without-guest}
@@ -23,12 +23,12 @@ use Rattle.model.proofs.Invariant.Answer.{Good, then-done, checked}
 
 module _ (g : ℕ) where
   -- what a frame was that is drained
-  pub data Was (x : FrameKind) : Type 0 where
+  pub data Was (x : Frame-kind) : Type 0 where
     stays : drained g x ≡ x → ((h n p : ℕ) → x ≡ table h n p → h ≡ g → ⊥) → ((h : ℕ) → x ≡ page h → h ≡ g → ⊥) → Was x
     was-table : (n p : ℕ) → x ≡ table g n p → drained g x ≡ draining-table g n p → Was x
     was-page : x ≡ page g → drained g x ≡ draining-page g → Was x
 
-  pub was : (x : FrameKind) → Was x
+  pub was : (x : Frame-kind) → Was x
   unfolding drained
   was monitor = stays refl (λ h n p e. absurd (clash {x = monitor} {y = table h n p} e refl)) (λ h e. absurd (clash {x = monitor} {y = page h} e refl))
   was free = stays refl (λ h n p e. absurd (clash {x = free} {y = table h n p} e refl)) (λ h e. absurd (clash {x = free} {y = page h} e refl))
@@ -43,7 +43,7 @@ module _ (g : ℕ) where
     | inr q ↦ stays (rw (ne-eqb a g q)) (λ h n p e. absurd (clash {x = page a} {y = table h n p} e refl)) (λ h e z. q (cc))
   ]
 
-  pub from-table : (x : FrameKind) (h n p : ℕ) → drained g x ≡ table h n p → (x ≡ table h n p) × (h ≡ g → ⊥)
+  pub from-table : (x : Frame-kind) (h n p : ℕ) → drained g x ≡ table h n p → (x ≡ table h n p) × (h ≡ g → ⊥)
   from-table x h n p e = go (was x)
     where
       go : Was x → (x ≡ table h n p) × (h ≡ g → ⊥)
@@ -51,7 +51,7 @@ module _ (g : ℕ) where
       go (was-table m q a b) = absurd (clash {x = draining-table g m q} {y = table h n p} (sym b ∙ e) refl)
       go (was-page a b) = absurd (clash {x = draining-page g} {y = table h n p} (sym b ∙ e) refl)
 
-  pub from-page : (x : FrameKind) (h : ℕ) → drained g x ≡ page h → (x ≡ page h) × (h ≡ g → ⊥)
+  pub from-page : (x : Frame-kind) (h : ℕ) → drained g x ≡ page h → (x ≡ page h) × (h ≡ g → ⊥)
   from-page x h e = go (was x)
     where
       go : Was x → (x ≡ page h) × (h ≡ g → ⊥)
@@ -59,7 +59,7 @@ module _ (g : ℕ) where
       go (was-table m q a b) = absurd (clash {x = draining-table g m q} {y = page h} (sym b ∙ e) refl)
       go (was-page a b) = absurd (clash {x = draining-page g} {y = page h} (sym b ∙ e) refl)
 
-  from-draining : (x : FrameKind) (h n p : ℕ) → drained g x ≡ draining-table h n p → (x ≡ draining-table h n p) ⊎ ((x ≡ table h n p) × (h ≡ g))
+  from-draining : (x : Frame-kind) (h n p : ℕ) → drained g x ≡ draining-table h n p → (x ≡ draining-table h n p) ⊎ ((x ≡ table h n p) × (h ≡ g))
   from-draining x h n p e = go (was x)
     where
       go : Was x → (x ≡ draining-table h n p) ⊎ ((x ≡ table h n p) × (h ≡ g))
@@ -68,7 +68,7 @@ module _ (g : ℕ) where
       go (was-page a b) = absurd (clash {x = draining-page g} {y = draining-table h n p} (sym b ∙ e) refl)
 
   -- the places of the others are as they were, and g has none
-  hit-drained : (x : FrameKind) (e : Entry) (f h : ℕ) → (h ≡ g → ⊥) → hit x e f h ≡ hit (drained g x) e f h
+  hit-drained : (x : Frame-kind) (e : Entry) (f h : ℕ) → (h ≡ g → ⊥) → hit x e f h ≡ hit (drained g x) e f h
   hit-drained x e f h ne = go (was x)
     where
       go : Was x → hit x e f h ≡ hit (drained g x) e f h
@@ -76,14 +76,14 @@ module _ (g : ℕ) where
       go (was-table m q a b) = rw (b, a, hit-other g m q e f h (λ (z : g ≡ h). ne (sym z))) (unfold hit in refl)
       go (was-page a b) = rw (b, a) (unfold hit in refl)
 
-  hit-gone : (x : FrameKind) (e : Entry) (f : ℕ) → hit (drained g x) e f g ≡ 0
+  hit-gone : (x : Frame-kind) (e : Entry) (f : ℕ) → hit (drained g x) e f g ≡ 0
   unfolding hit
   hit-gone x e f = go (was x)
     where
       go : Was x → hit (drained g x) e f g ≡ 0
       go (stays a b c) = rw a (none x b)
         where
-          none : (x : FrameKind) → ((h n p : ℕ) → x ≡ table h n p → h ≡ g → ⊥) → hit x e f g ≡ 0
+          none : (x : Frame-kind) → ((h n p : ℕ) → x ≡ table h n p → h ≡ g → ⊥) → hit x e f g ≡ 0
           none monitor b = refl
           none free b = refl
           none (table h n p) b = hit-other h n p e f g (λ z. b h n p refl z)

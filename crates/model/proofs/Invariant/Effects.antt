@@ -11,7 +11,7 @@ use borrow.Author.Tests.{leb-true, eq-eqb, ne-eqb}
 use Rattle.model.proofs.Laws.Base.{eq?, bool?, and-true, not-true}
 use Rattle.model.specs.Base.{upd, upd2}
 use Rattle.model.proofs.Laws.Base.{upd-same, upd-at, upd-other}
-use Rattle.model.specs.State.{State, FrameKind, free, table, page, draining-page, page-count, free-frames}
+use Rattle.model.specs.State.{State, Frame-kind, free, table, page, draining-page, page-count, free-frames}
 use Rattle.model.specs.Entry.{empty, to-page, entry, page-entry}
 use Rattle.model.proofs.Laws.Entry.{entry-empty}
 use Rattle.model.specs.Translate.{entry-at, descend, Page, page-in, page-at, leaf, translate, mapped, missing}
@@ -58,7 +58,7 @@ Row s o s′ = (h v : ℕ) → v < page-count → translate s′ h v ≡ expecte
 
 module _ (s : State) (c : Core s) where
   -- frames that are no tables: give, take, share, unshare
-  becomes-same : (f : ℕ) (y : FrameKind) (w sh : ℕ → ℕ → ℕ) → ((t g n p : ℕ) → s .kind t ≡ table g n p → (i : ℕ) → w t i ≡ s .word t i) → (h v : ℕ) → v < page-count → translate (becomes s f y w sh) h v ≡ translate s h v
+  becomes-same : (f : ℕ) (y : Frame-kind) (w sh : ℕ → ℕ → ℕ) → ((t g n p : ℕ) → s .kind t ≡ table g n p → (i : ℕ) → w t i ≡ s .word t i) → (h v : ℕ) → v < page-count → translate (becomes s f y w sh) h v ≡ translate s h v
   becomes-same f y w sh hw h v l = same-translate s c (becomes s f y w sh) h (unfold becomes in refl) (unfold becomes in refl) (unfold becomes in λ t g n p a i. ap (entry (s .first)) (hw t g n p a i)) v l
 
   clean-same : (g h v : ℕ) → v < page-count → translate (clean s g) h v ≡ translate s h v

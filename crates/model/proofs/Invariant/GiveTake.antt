@@ -9,7 +9,7 @@ use borrow.Author.Tests.{eqb-true, ltb-true, leb-true}
 use Rattle.model.proofs.Laws.Base.{eq?, bool?, and-true, sum-zero}
 use Rattle.model.specs.Base.{upd}
 use Rattle.model.proofs.Laws.Base.{upd-at, upd-other}
-use Rattle.model.specs.State.{State, FrameKind, free, table, page, draining-page, guests, is-guest, is-free, total}
+use Rattle.model.specs.State.{State, Frame-kind, free, table, page, draining-page, guests, is-guest, is-free, total}
 use Rattle.model.specs.Entry.{to-page}
 use Rattle.model.specs.Translate.{entry-at}
 use Rattle.model.specs.Changes.{becomes, zeros}
@@ -55,7 +55,7 @@ module _ (s : State) (c : Core s) where
 
 module _ (s : State) (c : Core s) (k : Caches) (q : Kept s k) where
   -- somebody's page stays so when a frame that is no page changes
-  may-else : (f : ℕ) (x y : FrameKind) (w : ℕ → ℕ → ℕ) (sh : ℕ → ℕ) → s .kind f ≡ x → eqb (sort x) 4 ≡ false → (g f′ r : ℕ) → May s g f′ r →
+  may-else : (f : ℕ) (x y : Frame-kind) (w : ℕ → ℕ → ℕ) (sh : ℕ → ℕ) → s .kind f ≡ x → eqb (sort x) 4 ≡ false → (g f′ r : ℕ) → May s g f′ r →
       May (becomes s f y w (upd (s .shared) f sh)) g f′ r
   unfolding becomes
   may-else f x y w sh hf n g f′ r (inl h) = inl (kind-keep (s .kind) f x y hf f′ (page g) h n)
@@ -100,7 +100,7 @@ module _ (s : State) (c : Core s) (k : Caches) (q : Kept s k) where
       ]
 
   -- a page to which nothing leads, and which nobody may use but its owner
-  module _ (f g : ℕ) (hf : s .kind f ≡ page g) (zm : total (s .count f) ≡ 0) (zs : total (s .shared f) ≡ 0) (y : FrameKind) where
+  module _ (f g : ℕ) (hf : s .kind f ≡ page g) (zm : total (s .count f) ≡ 0) (zs : total (s .shared f) ≡ 0) (y : Frame-kind) where
     may-other : (g′ f′ r : ℕ) → (f′ ≡ f → ⊥) → May s g′ f′ r → May (becomes s f y (s .word) (s .shared)) g′ f′ r
     unfolding becomes
     may-other g′ f′ r ne (inl h) = inl (upd-other (s .kind) f y f′ ne ∙ h)

@@ -8,7 +8,7 @@ use lib.Dec.{eqb, ltb, leb}
 use borrow.Author.Tests.{le-leb, leb-true}
 use Rattle.model.proofs.Laws.Base.{and-true, sum-none}
 use Rattle.model.specs.Base.{sum}
-use Rattle.model.specs.State.{State, FrameKind, monitor, free, table, draining-table, page, draining-page, page-count}
+use Rattle.model.specs.State.{State, Frame-kind, monitor, free, table, draining-table, page, draining-page, page-count}
 use Rattle.model.specs.Entry.{Entry, entry}
 use Rattle.model.specs.Operations.{Out, refuse, done, check, at-first, started, set-up}
 use Rattle.model.specs.Cache.{Caches, nothing-kept, Access, writing, grants, Reach}
@@ -100,7 +100,7 @@ module _ (P : State → Type 0) (answered : Answers-keep P) (written : Stores-ke
 
 -- set-up: nobody is there
 module _ (n k : ℕ) where
-  pub neither : (f : ℕ) (x : FrameKind) → at-first n k f ≡ x → eqb 0 (sort x) ≡ false → eqb 1 (sort x) ≡ false → ⊥
+  pub neither : (f : ℕ) (x : Frame-kind) → at-first n k f ≡ x → eqb 0 (sort x) ≡ false → eqb 1 (sort x) ≡ false → ⊥
   unfolding at-first
   neither f x e a b = go (ltb f k || leb n f) refl
     where

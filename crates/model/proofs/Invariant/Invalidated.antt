@@ -7,7 +7,7 @@ use lib.Dec.{eqb}
 use borrow.Author.Tests.{eq-eqb, ne-eqb}
 use Rattle.model.proofs.Laws.Base.{bool?}
 use Rattle.model.proofs.Laws.Base.{upd-other}
-use Rattle.model.specs.State.{State, FrameKind, monitor, free, table, draining-table, page, draining-page}
+use Rattle.model.specs.State.{State, Frame-kind, monitor, free, table, draining-table, page, draining-page}
 use Rattle.model.specs.Entry.{Entry}
 use Rattle.model.specs.Translate.{entry-at}
 use Rattle.model.specs.Changes.{released, clean}
@@ -22,7 +22,7 @@ use Rattle.model.proofs.Invariant.Answer.{Good, then-done, checked}
 
 module _ (g : ℕ) where
   -- a frame stays what it is, or is let go
-  pub stays-or-free : (x : FrameKind) → (released g x ≡ x) ⊎ (released g x ≡ free)
+  pub stays-or-free : (x : Frame-kind) → (released g x ≡ x) ⊎ (released g x ≡ free)
   unfolding released
   stays-or-free monitor = inl refl
   stays-or-free free = inl refl
@@ -31,16 +31,16 @@ module _ (g : ℕ) where
   stays-or-free (page h) = inl refl
   stays-or-free (draining-page h) = elim (bool? (eqb h g)) [ inl e ↦ inr (rw e) | inr e ↦ inl (rw e) ]
 
-  pub released-from : (x z : FrameKind) → released g x ≡ z → eqb 1 (sort z) ≡ false → x ≡ z
+  pub released-from : (x z : Frame-kind) → released g x ≡ z → eqb 1 (sort z) ≡ false → x ≡ z
   released-from x z e q = elim (stays-or-free x) [ inl a ↦ sym a ∙ e | inr a ↦ absurd (clash {x = free} {y = z} (sym a ∙ e) q) ]
 
-  not-mine : (x : FrameKind) (h n p : ℕ) → released g x ≡ draining-table h n p → h ≡ g → ⊥
+  not-mine : (x : Frame-kind) (h n p : ℕ) → released g x ≡ draining-table h n p → h ≡ g → ⊥
   unfolding released
   not-mine x h n p e a =
       let b = released-from x (draining-table h n p) e refl in
       clash {x = free} {y = draining-table h n p} (rw (b, eq-eqb h g a) at e) refl
 
-  hit-released : (x : FrameKind) (e : Entry) (f h : ℕ) → hit x e f h ≡ hit (released g x) e f h
+  hit-released : (x : Frame-kind) (e : Entry) (f h : ℕ) → hit x e f h ≡ hit (released g x) e f h
   unfolding released hit
   hit-released monitor e f h = refl
   hit-released free e f h = refl

@@ -10,7 +10,7 @@ use borrow.Author.Tests.{leb-true, ne-eqb}
 use Rattle.model.proofs.Laws.Base.{eq?, and-true, not-true}
 use Rattle.model.specs.Base.{upd, upd2}
 use Rattle.model.proofs.Laws.Base.{upd-same, upd-at, upd-other, upd2-other}
-use Rattle.model.specs.State.{State, FrameKind, free, table, page, draining-page, is-page-of, free-frames, put-byte}
+use Rattle.model.specs.State.{State, Frame-kind, free, table, page, draining-page, is-page-of, free-frames, put-byte}
 use Rattle.model.specs.Entry.{empty, to-table, entry, page-entry}
 use Rattle.model.specs.Translate.{upper, index, entry-at, descend, missing-from, translate, missing}
 use Rattle.model.specs.Changes.{Choice, zeros, becomes, with-root, with-table, Grown, grow, with-page, with-mapping, without-page, drained, without-guest, released, clean}
@@ -59,7 +59,7 @@ module _ (s : State) (l : Linked s) where
       ∙ ap (λ (w : ℕ → ℕ → ℕ). entry (s .first) (w u j)) e4
       ∙ ap (entry (s .first)) (upd2-other (s .word) t i x u j (λ (e : u ≡ t) z. let o : 0 ≡ suc h = cc in omega arith)) ∙ b)
 
-  becomes-linked : (f : ℕ) (x y : FrameKind) (w sh : ℕ → ℕ → ℕ) → s .kind f ≡ x → eqb (sort x) 2 ≡ false → eqb (sort y) 2 ≡ false → ((t : ℕ) → (t ≡ f → ⊥) → (i : ℕ) → w t i ≡ s .word t i) → Linked (becomes s f y w sh)
+  becomes-linked : (f : ℕ) (x y : Frame-kind) (w sh : ℕ → ℕ → ℕ) → s .kind f ≡ x → eqb (sort x) 2 ≡ false → eqb (sort y) 2 ≡ false → ((t : ℕ) → (t ≡ f → ⊥) → (i : ℕ) → w t i ≡ s .word t i) → Linked (becomes s f y w sh)
   unfolding becomes
   becomes-linked f x y w sh hf x2 y2 hw = linked-same s (becomes s f y w sh) l
       (λ t g h p k. (kind-from (s .kind) f y t (table g h p) k y2, refl, λ u n q a. kind-keep (s .kind) f x y hf u (table g n q) a x2))
@@ -134,7 +134,7 @@ module _ (s : State) (l : Linked s) where
       same-root : (g′ : ℕ) → with-table s t i t′ g h q .root g′ ≡ s .root g′
       same-root g′ = unfold with-table in refl
 
-      keep : (u : ℕ) (x : FrameKind) → s .kind u ≡ x → eqb 1 (sort x) ≡ false → with-table s t i t′ g h q .kind u ≡ x
+      keep : (u : ℕ) (x : Frame-kind) → s .kind u ≡ x → eqb 1 (sort x) ≡ false → with-table s t i t′ g h q .kind u ≡ x
       keep u x a k = unfold with-table in kind-keep (s .kind) t′ free (table g h q) hf u x a k
 
       first= : with-table s t i t′ g h q .first ≡ s .first

@@ -9,7 +9,7 @@ use lib.Dec.{eqb, ltb, leb}
 use borrow.Author.Tests.{eqb-true}
 use Rattle.model.proofs.Laws.Base.{lt?, and-true}
 use Rattle.model.specs.Base.{sum}
-use Rattle.model.specs.State.{State, FrameKind, monitor, free, table, draining-table, page, draining-page, page-count}
+use Rattle.model.specs.State.{State, Frame-kind, monitor, free, table, draining-table, page, draining-page, page-count}
 use Rattle.model.specs.Entry.{Entry, empty, to-table, to-page, other}
 use Rattle.model.specs.Translate.{entry-at, leaf, translate}
 use Rattle.model.specs.Operations.{done, check, started, set-up}
@@ -65,11 +65,11 @@ sum-some (suc n) f l = elim (lt? 0 (f n)) [
   | inr a ↦ let b = sum-some n f (omega arith) in let b1 = b .1 in (b .0, omega arith, b .2)
 ]
 
-hit-is : (x : FrameKind) (e : Entry) (f g : ℕ) → 0 < hit x e f g → (p r : ℕ) × (x ≡ table g 0 p) × (e ≡ to-page f r)
+hit-is : (x : Frame-kind) (e : Entry) (f g : ℕ) → 0 < hit x e f g → (p r : ℕ) × (x ≡ table g 0 p) × (e ≡ to-page f r)
 unfolding hit
 hit-is x e f g l = go x e l
   where
-    none : 0 < 0 → (x : FrameKind) (e : Entry) → (p r : ℕ) × (x ≡ table g 0 p) × (e ≡ to-page f r)
+    none : 0 < 0 → (x : Frame-kind) (e : Entry) → (p r : ℕ) × (x ≡ table g 0 p) × (e ≡ to-page f r)
     none l x e = absurd (omega arith)
 
     no-bool : (b : Bool) → 0 < cond (b && false) 1 0 → ⊥
@@ -93,7 +93,7 @@ hit-is x e f g l = go x e l
         let f= = eqb-true f′ f (a .1) in
         (p, r, cc, cc)
 
-    go : (x : FrameKind) (e : Entry) → 0 < cond (is-last x g && leads e f) 1 0 → (p r : ℕ) × (x ≡ table g 0 p) × (e ≡ to-page f r)
+    go : (x : Frame-kind) (e : Entry) → 0 < cond (is-last x g && leads e f) 1 0 → (p r : ℕ) × (x ≡ table g 0 p) × (e ≡ to-page f r)
     go monitor e l = none l monitor e
     go free e l = none l free e
     go (draining-table g′ n p) e l = none l (draining-table g′ n p) e

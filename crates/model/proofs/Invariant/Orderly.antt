@@ -9,7 +9,7 @@ use borrow.Author.Tests.{leb-true}
 use Rattle.model.proofs.Laws.Base.{eq?, and-true}
 use Rattle.model.specs.Base.{upd, upd2}
 use Rattle.model.proofs.Laws.Base.{upd-at, upd-other, upd2-other}
-use Rattle.model.specs.State.{State, FrameKind, free, table, draining-table, page, draining-page, is-page-of, free-frames}
+use Rattle.model.specs.State.{State, Frame-kind, free, table, draining-table, page, draining-page, is-page-of, free-frames}
 use Rattle.model.specs.Entry.{to-page, entry, page-entry}
 use Rattle.model.specs.Translate.{entry-at, translate, missing}
 use Rattle.model.specs.Changes.{Choice, zeros, becomes, with-root, Grown, grow, with-page, with-mapping, without-page, drained, without-guest, clean}
@@ -37,7 +37,7 @@ pub record Fresh (s s′ : State) (f : ℕ) : Type 0 where
 pub record Orderly (s s′ : State) : Type 0 where
   pub first : s′ .first ≡ s .first
   pub size : s′ .size ≡ s .size
-  pub words : (f : ℕ) (x : FrameKind) → s .kind f ≡ x → eqb 1 (sort x) ≡ false → eqb 2 (sort x) ≡ false → (i : ℕ) → s′ .word f i ≡ s .word f i
+  pub words : (f : ℕ) (x : Frame-kind) → s .kind f ≡ x → eqb 1 (sort x) ≡ false → eqb 2 (sort x) ≡ false → (i : ℕ) → s′ .word f i ≡ s .word f i
   pub pages-from : (f g : ℕ) → s′ .kind f ≡ page g → (s .kind f ≡ page g) ⊎ Fresh s s′ f
   pub tables-from : (f g h p : ℕ) → s′ .kind f ≡ table g h p → (s .kind f ≡ table g h p) ⊎ (s .kind f ≡ free)
 
@@ -47,7 +47,7 @@ free-unled s f f′ hf e g r (inr a) = clash {x = free} {y = page (a .0)} (sym h
 
 module _ (s : State) where
   -- take, share, unshare
-  becomes-orderly : (f : ℕ) (y : FrameKind) (sh : ℕ → ℕ → ℕ) → ((g : ℕ) → y ≡ page g → s .kind f ≡ page g) → eqb (sort y) 2 ≡ false → Orderly s (becomes s f y (s .word) sh)
+  becomes-orderly : (f : ℕ) (y : Frame-kind) (sh : ℕ → ℕ → ℕ) → ((g : ℕ) → y ≡ page g → s .kind f ≡ page g) → eqb (sort y) 2 ≡ false → Orderly s (becomes s f y (s .word) sh)
   unfolding becomes
   becomes-orderly f y sh own y2 = record {
     first = refl;
@@ -123,7 +123,7 @@ module _ (s : State) where
     tables-from = λ f g′ h p a. inl (before f (table g′ h p) a refl refl (was g (s .kind f)));
   }
     where
-      before : (f : ℕ) (x : FrameKind) → drained g (s .kind f) ≡ x → eqb 3 (sort x) ≡ false → eqb 5 (sort x) ≡ false → Was g (s .kind f) → s .kind f ≡ x
+      before : (f : ℕ) (x : Frame-kind) → drained g (s .kind f) ≡ x → eqb 3 (sort x) ≡ false → eqb 5 (sort x) ≡ false → Was g (s .kind f) → s .kind f ≡ x
       before f x a y3 y5 (stays b c d) = sym b ∙ a
       before f x a y3 y5 (was-table n p b d) = absurd (clash {x = draining-table g n p} {y = x} (sym d ∙ a) y3)
       before f x a y3 y5 (was-page b d) = absurd (clash {x = draining-page g} {y = x} (sym d ∙ a) y5)

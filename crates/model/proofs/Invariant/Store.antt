@@ -5,7 +5,7 @@ use mathlib.Core.Logic.{_⊎_, inl, inr}
 use Prim.Native.Nat.{ℕ, _/_, _%_}
 use Rattle.model.specs.Base.{upd2}
 use Rattle.model.proofs.Laws.Base.{upd2-other}
-use Rattle.model.specs.State.{State, FrameKind, monitor, free, table, draining-table, page, draining-page, reworded, put-byte, tabled}
+use Rattle.model.specs.State.{State, Frame-kind, monitor, free, table, draining-table, page, draining-page, reworded, put-byte, tabled}
 use Rattle.model.specs.Entry.{entry}
 use Rattle.model.specs.Translate.{entry-at}
 use Rattle.model.specs.Cache.{Caches}
@@ -15,10 +15,10 @@ use Rattle.model.proofs.Invariant.Counts.{places-cong}
 
 -- w the words after it, which are the same in every table, in use or draining
 module _ (s : State) (w : ℕ → ℕ → ℕ) (same : (t : ℕ) → tabled (s .kind t) ≡ true → (i : ℕ) → w t i ≡ s .word t i) where
-  same-in : (t : ℕ) (y : FrameKind) → s .kind t ≡ y → tabled y ≡ true → (i : ℕ) → w t i ≡ s .word t i
+  same-in : (t : ℕ) (y : Frame-kind) → s .kind t ≡ y → tabled y ≡ true → (i : ℕ) → w t i ≡ s .word t i
   same-in t y e h i = same t (ap tabled e ∙ h) i
 
-  counted : (t i f g : ℕ) (y : FrameKind) → s .kind t ≡ y → hit (s .kind t) (entry-at s t i) f g ≡ hit (s .kind t) (entry (s .first) (w t i)) f g
+  counted : (t i f g : ℕ) (y : Frame-kind) → s .kind t ≡ y → hit (s .kind t) (entry-at s t i) f g ≡ hit (s .kind t) (entry (s .first) (w t i)) f g
   unfolding hit
   counted t i f g monitor e = rw e
   counted t i f g free e = rw e
@@ -57,7 +57,7 @@ module _ (s : State) (g f r o x : ℕ) (m : May s g f r ⊎ (s .kind f ≡ drain
   no-table : (t : ℕ) → tabled (s .kind t) ≡ true → t ≡ f → ⊥
   no-table t h e = go m
     where
-      other : (y : FrameKind) → s .kind f ≡ y → tabled y ≡ false → ⊥
+      other : (y : Frame-kind) → s .kind f ≡ y → tabled y ≡ false → ⊥
       other y z n = true≢false (sym h ∙ ap (λ (u : ℕ). tabled (s .kind u)) e ∙ ap tabled z ∙ n)
 
       go : May s g f r ⊎ (s .kind f ≡ draining-page g) → ⊥

@@ -7,13 +7,13 @@ use Prim.Native.Nat.{ℕ, zero, suc, _+_, _*_, _<_, _/_, _%_}
 use native.Mathlib.Omega.{arith}
 use native.Mathlib.Nat.{div-add-mod'}
 use Rattle.model.proofs.Laws.Base.{bool?}
-use Rattle.model.specs.State.{State, FrameKind, table, page-count}
+use Rattle.model.specs.State.{State, Frame-kind, table, page-count}
 use Rattle.model.specs.Entry.{Entry, empty, to-table, to-page, other}
 use Rattle.model.specs.Translate.{upper, index, entry-at, into, descend, Page, page-in, page-at, leaf, translate}
 use Rattle.model.specs.Invariant.{Core}
 
 -- a page of the 2^36: the root serves it
-pub root-serves : (x : FrameKind) (g v : ℕ) → x ≡ table g 3 0 → v < page-count → x ≡ table g 3 (upper 4 v)
+pub root-serves : (x : Frame-kind) (g v : ℕ) → x ≡ table g 3 0 → v < page-count → x ≡ table g 3 (upper 4 v)
 unfolding upper
 root-serves x g v h l = let z : v / 512 / 512 / 512 / 512 ≡ 0 = omega arith in rw z h
 

@@ -9,7 +9,7 @@ use lib.Dec.{eqb}
 use Rattle.model.proofs.Laws.Base.{eq?}
 use Rattle.model.proofs.Laws.Base.{upd-other, upd2-same, upd2-at, upd2-other}
 use Rattle.model.specs.Base.{upd2}
-use Rattle.model.specs.State.{State, FrameKind, free, table, page, draining-page, free-frames, reworded}
+use Rattle.model.specs.State.{State, Frame-kind, free, table, page, draining-page, free-frames, reworded}
 use Rattle.model.specs.Entry.{empty, table-entry}
 use Rattle.model.specs.Translate.{upper, index, entry-at, missing-from}
 use Rattle.model.specs.Changes.{Choice, with-table, grow}
@@ -85,7 +85,7 @@ module _ (z : State) where
       same-kind : (u : ℕ) → (u ≡ t′ → ⊥) → with-table s t i t′ g h q .kind u ≡ s .kind u
       same-kind u e = unfold with-table in upd-other (s .kind) t′ (table g h q) u e
 
-      from : (u : ℕ) (x : FrameKind) → with-table s t i t′ g h q .kind u ≡ x → eqb 2 (sort x) ≡ false → s .kind u ≡ x
+      from : (u : ℕ) (x : Frame-kind) → with-table s t i t′ g h q .kind u ≡ x → eqb 2 (sort x) ≡ false → s .kind u ≡ x
       from u x a e = unfold with-table in kind-from (s .kind) t′ (table g h q) u x a e
 
   -- one word of a last table is changed, to what the state after it has there
@@ -101,10 +101,10 @@ module _ (z : State) where
     shared = λ f g. ap (λ (b : ℕ → ℕ → ℕ). b f g) e5 ∙ sh .shared f g;
     words = λ u j l n. ap (λ (b : ℕ → ℕ → ℕ). b u j) e7 ∙ elim (both? u t j i) [
       | inl d ↦ upd2-at (s .word) t i x u j (d .0) (d .1) ∙ sym (upd2-at w t i x u j (d .0) (d .1))
-      | inr d ↦ upd2-other (s .word) t i x u j d ∙ sh .words u j l (λ y. n (ap (λ (b : ℕ → FrameKind). b u) e6 ∙ y)) ∙ sym (upd2-other w t i x u j d)
+      | inr d ↦ upd2-other (s .word) t i x u j d ∙ sh .words u j l (λ y. n (ap (λ (b : ℕ → Frame-kind). b u) e6 ∙ y)) ∙ sym (upd2-other w t i x u j d)
     ];
-    pages-same = λ f g a. sh .pages-same f g (sym (ap (λ (b : ℕ → FrameKind). b f) e6) ∙ a);
-    draining-same = λ f g a. sh .draining-same f g (sym (ap (λ (b : ℕ → FrameKind). b f) e6) ∙ a);
+    pages-same = λ f g a. sh .pages-same f g (sym (ap (λ (b : ℕ → Frame-kind). b f) e6) ∙ a);
+    draining-same = λ f g a. sh .draining-same f g (sym (ap (λ (b : ℕ → Frame-kind). b f) e6) ∙ a);
   }
 
 -- G: what is to be shown of the stores that are left, with what is kept and the words there; it follows from the same after the first of them

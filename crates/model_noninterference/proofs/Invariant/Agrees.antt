@@ -7,7 +7,7 @@ use Prim.Native.Nat.{ℕ, _<_, _/_, _%_}
 use Rattle.model.proofs.Laws.Base.{eq?}
 use Rattle.model.specs.Base.{upd, upd2}
 use Rattle.model.proofs.Laws.Base.{upd-at, upd-other, upd2-at, upd2-other}
-use Rattle.model.specs.State.{FrameKind, byte-of, put-byte, tabled}
+use Rattle.model.specs.State.{Frame-kind, byte-of, put-byte, tabled}
 use Rattle.model.specs.Changes.{zeros}
 use Rattle.model_noninterference.specs.TwoRunsTerms.{reads}
 use Rattle.model.proofs.Invariant.Bytes.{byte-put-same, byte-put-other}
@@ -16,7 +16,7 @@ use Rattle.model.proofs.Invariant.Bytes.{byte-put-same, byte-put-other}
 abbrev pub Same-frame : (a b : ℕ → ℕ) → Type 0
 Same-frame a b = (j k : ℕ) → j < 512 → k < 8 → byte-of k (a j) ≡ byte-of k (b j)
 
-pub record Agrees (g : ℕ) (kind : ℕ → FrameKind) (shared a b : ℕ → ℕ → ℕ) : Type 0 where
+pub record Agrees (g : ℕ) (kind : ℕ → Frame-kind) (shared a b : ℕ → ℕ → ℕ) : Type 0 where
   pub tables : (t : ℕ) → tabled (kind t) ≡ true → (i : ℕ) → b t i ≡ a t i
   pub page-count : (f : ℕ) → reads g (kind f) (shared f g) ≡ true → Same-frame (a f) (b f)
 
@@ -36,7 +36,7 @@ zeros-both B a b t u j e = elim (eq? u t) [
   | inr p ↦ rw (upd-other a t zeros u p, upd-other b t zeros u p) (e p)
 ]
 
-module _ (g : ℕ) (kind : ℕ → FrameKind) (shared a b : ℕ → ℕ → ℕ) (m : Agrees g kind shared a b) where
+module _ (g : ℕ) (kind : ℕ → Frame-kind) (shared a b : ℕ → ℕ → ℕ) (m : Agrees g kind shared a b) where
   -- the same word is written in both
   pub agrees-set : (t i x : ℕ) → Agrees g kind shared (upd2 a t i x) (upd2 b t i x)
   agrees-set t i x = record {
@@ -45,7 +45,7 @@ module _ (g : ℕ) (kind : ℕ → FrameKind) (shared a b : ℕ → ℕ → ℕ)
   }
 
   -- frame t is cleared in both, and becomes anything
-  pub agrees-zero : (t : ℕ) (kind′ : ℕ → FrameKind) (shared′ : ℕ → ℕ → ℕ) → ((u : ℕ) → (u ≡ t → ⊥) → kind′ u ≡ kind u) → ((u : ℕ) → (u ≡ t → ⊥) → shared′ u g ≡ shared u g) →
+  pub agrees-zero : (t : ℕ) (kind′ : ℕ → Frame-kind) (shared′ : ℕ → ℕ → ℕ) → ((u : ℕ) → (u ≡ t → ⊥) → kind′ u ≡ kind u) → ((u : ℕ) → (u ≡ t → ⊥) → shared′ u g ≡ shared u g) →
       Agrees g kind′ shared′ (upd a t zeros) (upd b t zeros)
   agrees-zero t kind′ shared′ ke se = record {
     tables = λ u e j. zeros-both (λ y. y) b a t u j (λ ne. m .tables u (rw (ke u ne) at e) j);
@@ -53,7 +53,7 @@ module _ (g : ℕ) (kind : ℕ → FrameKind) (shared a b : ℕ → ℕ → ℕ)
   }
 
   -- no more tables, and nothing more is shown but what is the same in both
-  pub agrees-less : (kind′ : ℕ → FrameKind) (shared′ : ℕ → ℕ → ℕ) → ((t : ℕ) → tabled (kind′ t) ≡ true → tabled (kind t) ≡ true) →
+  pub agrees-less : (kind′ : ℕ → Frame-kind) (shared′ : ℕ → ℕ → ℕ) → ((t : ℕ) → tabled (kind′ t) ≡ true → tabled (kind t) ≡ true) →
       ((f : ℕ) → reads g (kind′ f) (shared′ f g) ≡ true → (reads g (kind f) (shared f g) ≡ true) ⊎ Same-frame (a f) (b f)) → Agrees g kind′ shared′ a b
   agrees-less kind′ shared′ ts ps = record {
     tables = λ t e. m .tables t (ts t e);
@@ -87,5 +87,5 @@ module _ (g : ℕ) (kind : ℕ → FrameKind) (shared a b : ℕ → ℕ → ℕ)
   }
 
 -- from the other side
-pub agrees-turned : (g : ℕ) (kind : ℕ → FrameKind) (shared a b : ℕ → ℕ → ℕ) → Agrees g kind shared a b → Agrees g kind shared b a
+pub agrees-turned : (g : ℕ) (kind : ℕ → Frame-kind) (shared a b : ℕ → ℕ → ℕ) → Agrees g kind shared a b → Agrees g kind shared b a
 agrees-turned g kind shared a b m = record { tables = λ t e i. sym (m .tables t e i); page-count = λ f e j k l n. sym (m .page-count f e j k l n) }

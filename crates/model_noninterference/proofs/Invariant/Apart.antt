@@ -8,7 +8,7 @@ use borrow.Author.Tests.{leb-true, eqb-true, eq-eqb, ne-eqb}
 use Rattle.model.proofs.Laws.Base.{eq?, bool?, and-true, not-true, all-true}
 use Rattle.model.specs.Base.{upd, upd2}
 use Rattle.model.proofs.Laws.Base.{upd-same, upd-at, upd-other, upd2-at, upd2-other}
-use Rattle.model.specs.State.{State, FrameKind, monitor, free, table, draining-table, page, draining-page, is-page-of, total, free-frames}
+use Rattle.model.specs.State.{State, Frame-kind, monitor, free, table, draining-table, page, draining-page, is-page-of, total, free-frames}
 use Rattle.model.specs.Translate.{translate, missing}
 use Rattle.model.specs.Changes.{Choice, zeros, becomes, with-root, Grown, grow, with-page, with-mapping, without-page, drained, without-guest, released, clean}
 use Rattle.model.specs.Operations.{create, give, map, unmap, share, unshare, take, unshared, destroy, invalidated}
@@ -26,7 +26,7 @@ use Rattle.model.proofs.Invariant.Answer.{Then, then-done, checked}
 use Rattle.model.proofs.Invariant.Holds.{nothing-ok}
 
 -- 1 its own page, 2 a page that is shared with it, 3 a page that drains for it, 0 nothing that it may read
-abbrev pub role : (g : ℕ) → FrameKind → (how : ℕ) → ℕ
+abbrev pub role : (g : ℕ) → Frame-kind → (how : ℕ) → ℕ
 role g monitor how = 0
 role g free how = 0
 role g (table h n p) how = 0
@@ -71,7 +71,7 @@ upd-cond f k g v = elim (eq? k g) [
 ]
 
 -- a frame f of the state becomes something: the rest is as before
-becomes-roles : (g : ℕ) (s : State) (f : ℕ) (y : FrameKind) (w sh : ℕ → ℕ → ℕ) (k : ℕ → ℕ → ℕ) → ((u : ℕ) → (u ≡ f → ⊥) → sh u g ≡ s .shared u g) → ((u : ℕ) → (u ≡ f → ⊥) → k u (role-of s g u) ≡ role-of s g u) →
+becomes-roles : (g : ℕ) (s : State) (f : ℕ) (y : Frame-kind) (w sh : ℕ → ℕ → ℕ) (k : ℕ → ℕ → ℕ) → ((u : ℕ) → (u ≡ f → ⊥) → sh u g ≡ s .shared u g) → ((u : ℕ) → (u ≡ f → ⊥) → k u (role-of s g u) ≡ role-of s g u) →
     role g y (sh f g) ≡ k f (role-of s g f) → (u : ℕ) → role-of (becomes s f y w sh) g u ≡ k u (role-of s g u)
 unfolding becomes
 becomes-roles g s f y w sh k se others here u = elim (eq? u f) [
@@ -84,7 +84,7 @@ no-two : (b : Bool) → _≡_ {A = ℕ} (cond (eqb (cond b 2 0) 1) 3 (cond b 2 0
 no-two true = refl
 no-two false = refl
 
-drained-role : (g h : ℕ) (x : FrameKind) (how : ℕ) → (x ≡ page h → (h ≡ g → ⊥) → how ≡ 0) → role g (drained h x) how ≡ cond (eqb h g) (cond (eqb (role g x how) 1) 3 (role g x how)) (role g x how)
+drained-role : (g h : ℕ) (x : Frame-kind) (how : ℕ) → (x ≡ page h → (h ≡ g → ⊥) → how ≡ 0) → role g (drained h x) how ≡ cond (eqb h g) (cond (eqb (role g x how) 1) 3 (role g x how)) (role g x how)
 unfolding drained
 drained-role g h monitor how z = elim (bool? (eqb h g)) [ inl e ↦ rw e | inr e ↦ rw e ]
 drained-role g h free how z = elim (bool? (eqb h g)) [ inl e ↦ rw e | inr e ↦ rw e ]
@@ -108,7 +108,7 @@ drained-role g h (draining-page a) how z = elim (bool? (eqb h g)) [
   | inl e ↦ elim (bool? (eqb a g)) [ inl q ↦ rw (e, q) | inr q ↦ rw (e, q) ]
 ]
 
-released-role : (g h : ℕ) (x : FrameKind) (how : ℕ) → role g (released h x) how ≡ cond (eqb h g) (cond (eqb (role g x how) 3) 0 (role g x how)) (role g x how)
+released-role : (g h : ℕ) (x : Frame-kind) (how : ℕ) → role g (released h x) how ≡ cond (eqb h g) (cond (eqb (role g x how) 3) 0 (role g x how)) (role g x how)
 unfolding released
 released-role g h monitor how = elim (bool? (eqb h g)) [ inl e ↦ rw e | inr e ↦ rw e ]
 released-role g h free how = elim (bool? (eqb h g)) [ inl e ↦ rw e | inr e ↦ rw e ]
@@ -240,7 +240,7 @@ module _ (g : ℕ) (s : State) (c : Core s) where
       x : Grown
       x = grow 3 s h (s .root h) (a / 4096) pick
 
-      a-table : (y : FrameKind) (how : ℕ) → eqb 2 (sort y) ≡ true → role g y how ≡ 0
+      a-table : (y : Frame-kind) (how : ℕ) → eqb 2 (sort y) ≡ true → role g y how ≡ 0
       a-table monitor how e = refl
       a-table free how e = refl
       a-table (table h n p) how e = refl

@@ -8,7 +8,7 @@ use native.Mathlib.Omega.{arith}
 use lib.Dec.{eqb}
 use borrow.Author.Tests.{leb-true, eq-eqb, ne-eqb}
 use Rattle.model.specs.Base.{upd, upd2}
-use Rattle.model.specs.State.{State, FrameKind, free, table, draining-table, page, draining-page, free-frames, page-count}
+use Rattle.model.specs.State.{State, Frame-kind, free, table, draining-table, page, draining-page, free-frames, page-count}
 use Rattle.model.specs.Entry.{to-page, entry}
 use Rattle.model.specs.Translate.{entry-at, translate, missing}
 use Rattle.model.specs.Changes.{Choice, zeros, becomes, with-root, with-page, with-mapping, without-page, drained, without-guest, released, clean}
@@ -49,7 +49,7 @@ module _ (g : ℕ) (s : State) (c : Core s) where
   abbrev Kinds-from : State → Type 0
   Kinds-from s′ = (t h p : ℕ) → s′ .kind t ≡ draining-table g h p → s .kind t ≡ draining-table g h p
 
-  becomes-from : (f : ℕ) (y : FrameKind) (w sh : ℕ → ℕ → ℕ) → eqb (sort y) 3 ≡ false → Kinds-from (becomes s f y w sh)
+  becomes-from : (f : ℕ) (y : Frame-kind) (w sh : ℕ → ℕ → ℕ) → eqb (sort y) 3 ≡ false → Kinds-from (becomes s f y w sh)
   unfolding becomes
   becomes-from f y w sh n t h p a = kind-from (s .kind) f y t (draining-table g h p) a n
 

@@ -8,7 +8,7 @@ use native.Mathlib.Omega.{arith}
 use lib.Dec.{eqb, leb}
 use borrow.Author.Tests.{eqb-true, eqb-false, ne-eqb}
 use Rattle.model.proofs.Laws.Base.{upd2-other}
-use Rattle.model.specs.State.{State, FrameKind, monitor, free, table, draining-table, page, draining-page, put-byte, byte-of, byte, page-count, reworded, tabled}
+use Rattle.model.specs.State.{State, Frame-kind, monitor, free, table, draining-table, page, draining-page, put-byte, byte-of, byte, page-count, reworded, tabled}
 use Rattle.model.specs.Entry.{entry}
 use Rattle.model.specs.Translate.{entry-at, translate}
 use Rattle.model.specs.Operations.{Out, refuse, done}
@@ -111,7 +111,7 @@ pub record Called (g : ℕ) (m : Machine) (o : Operation) (m′ : Machine) : Typ
   pub still-kept : (v f r : ℕ) → reported g o ≡ false → m .caches .page-kept g v (m .state .first + f) r → m′ .caches .page-kept g v (m′ .state .first + f) r
   pub bytes : Bytes-stay g m m′
 
-role-sort : (g : ℕ) (x : FrameKind) (how : ℕ) → (role g x how ≡ 0 → ⊥) → (eqb 1 (sort x) ≡ false) × (eqb 2 (sort x) ≡ false)
+role-sort : (g : ℕ) (x : Frame-kind) (how : ℕ) → (role g x how ≡ 0 → ⊥) → (eqb 1 (sort x) ≡ false) × (eqb 2 (sort x) ≡ false)
 role-sort g monitor how n = absurd (n refl)
 role-sort g free how n = absurd (n refl)
 role-sort g (table h l p) how n = absurd (n refl)
@@ -245,7 +245,7 @@ called-unseen g {m} x o ch w = go (answer (m .state) o) refl w
     go (done s′) e (inr a) = let z : _≡_ {A = ℕ} 0 1 = cc in absurd (omega arith)
 
 -- a store to a frame that is not shown to g
-reads-role : (g : ℕ) (x : FrameKind) (how : ℕ) → reads g x how ≡ not (eqb (role g x how) 0)
+reads-role : (g : ℕ) (x : Frame-kind) (how : ℕ) → reads g x how ≡ not (eqb (role g x how) 0)
 reads-role g monitor how = refl
 reads-role g free how = refl
 reads-role g (table h n p) how = refl

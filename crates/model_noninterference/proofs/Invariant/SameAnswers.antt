@@ -10,7 +10,7 @@ use borrow.Author.Tests.{leb-true}
 use Rattle.model.proofs.Laws.Base.{eq?, bool?, and-true}
 use Rattle.model.specs.Base.{upd, upd2}
 use Rattle.model.proofs.Laws.Base.{upd-at, upd-other, upd2-at, upd2-other}
-use Rattle.model.specs.State.{State, FrameKind, free, table, draining-table, page, draining-page, is-page-of, free-frames, page-count, byte, reworded, tabled}
+use Rattle.model.specs.State.{State, Frame-kind, free, table, draining-table, page, draining-page, is-page-of, free-frames, page-count, byte, reworded, tabled}
 use Rattle.model.specs.Entry.{Entry, empty, to-table, to-page, other, entry, page-entry, table-entry}
 use Rattle.model.specs.Translate.{upper, index, entry-at, into, leaf, translate, missing-from, missing}
 use Rattle.model.specs.Changes.{Choice, zeros, becomes, with-root, with-table, Grown, grow, with-page, with-mapping, without-page, without-mapping, drained, without-guest, released, clean}
@@ -45,8 +45,8 @@ abbrev pub Echo : (g : ℕ) → State → State → Type 0
 Echo g s s′ = (w : ℕ → ℕ → ℕ) × (s′ ≡ reworded s w) × Agrees g (s .kind) (s .shared) (s .word) w
 
 -- a test of a frame that is passed after guest h is destroyed, or its invalidation reported, was passed before
-module _ (h : ℕ) (T : FrameKind → Bool) where
-  drained-passed : ((n p : ℕ) → T (draining-table h n p) ≡ true → T (table h n p) ≡ true) → (T (draining-page h) ≡ true → T (page h) ≡ true) → (x : FrameKind) → T (drained h x) ≡ true → T x ≡ true
+module _ (h : ℕ) (T : Frame-kind → Bool) where
+  drained-passed : ((n p : ℕ) → T (draining-table h n p) ≡ true → T (table h n p) ≡ true) → (T (draining-page h) ≡ true → T (page h) ≡ true) → (x : Frame-kind) → T (drained h x) ≡ true → T x ≡ true
   drained-passed a b x e = go (was h x)
     where
       go : Was h x → T x ≡ true
@@ -54,7 +54,7 @@ module _ (h : ℕ) (T : FrameKind → Bool) where
       go (was-table n p q r) = ap T q ∙ a n p (sym (ap T r) ∙ e)
       go (was-page q r) = ap T q ∙ b (sym (ap T r) ∙ e)
 
-  released-passed : T free ≡ false → (x : FrameKind) → T (released h x) ≡ true → T x ≡ true
+  released-passed : T free ≡ false → (x : Frame-kind) → T (released h x) ≡ true → T x ≡ true
   released-passed n x e = elim (stays-or-free h x) [ inl a ↦ sym (ap T a) ∙ e | inr a ↦ absurd (true≢false (sym e ∙ ap T a ∙ n)) ]
 
 module _ (g : ℕ) (s : State) (w : ℕ → ℕ → ℕ) (m : Agrees g (s .kind) (s .shared) (s .word) w) where
@@ -95,7 +95,7 @@ module _ (g : ℕ) (s : State) (w : ℕ → ℕ → ℕ) (m : Agrees g (s .kind)
   )
 
   -- frame f becomes y, no table, with these shares: what is shown of it then was shown, or is the same
-  becomes-echo : (f : ℕ) (y : FrameKind) (sh : ℕ → ℕ → ℕ) → tabled y ≡ false → ((u : ℕ) → (u ≡ f → ⊥) → sh u g ≡ s .shared u g) →
+  becomes-echo : (f : ℕ) (y : Frame-kind) (sh : ℕ → ℕ → ℕ) → tabled y ≡ false → ((u : ℕ) → (u ≡ f → ⊥) → sh u g ≡ s .shared u g) →
       (reads g y (sh f g) ≡ true → (reads g (s .kind f) (s .shared f g) ≡ true) ⊎ Same-frame (s .word f) (w f)) → Echo g (becomes s f y (s .word) sh) (becomes (reworded s w) f y w sh)
   unfolding becomes
   becomes-echo f y sh no-table others here = (

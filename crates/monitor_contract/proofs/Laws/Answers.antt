@@ -8,7 +8,7 @@ use native.Mathlib.Omega.{arith}
 use lib.Dec.{ltb, leb}
 use lib.ListN.{length}
 use borrow.Author.Tests.{le-ltb, lt-leb}
-use Rattle.model.specs.State.{State, FrameKind, guests, is-guest}
+use Rattle.model.specs.State.{State, Frame-kind, guests, is-guest}
 use Rattle.model.specs.Operations.{Out, refuse, done, refusal, check}
 use Rattle.model.specs.Cache.{Caches}
 use Rattle.model.specs.Invariant.{Core, Kept}
@@ -79,7 +79,7 @@ still-low {φ} {l} {l′} c keeps f h = let e : size-of l′ ≡ size-of l = sam
     same : size-of l′ ≡ size-of l
     same = unfold state-in in ap (λ (x : State). x .size) (c .state l) ∙ keeps (state-of l l)
 
-pub taken-low : {t : ℕ} {k : FrameKind} {l l′ : List ℕ} → Taken t k l l′ → (f : ℕ) → f < size-of l → f < size-of l′
+pub taken-low : {t : ℕ} {k : Frame-kind} {l l′ : List ℕ} → Taken t k l l′ → (f : ℕ) → f < size-of l → f < size-of l′
 taken-low {t} {k} x f h = still-low (x .changes) (λ s. unfold with-kind remade in refl) f h
 
 -- tests, as the code makes them

@@ -11,7 +11,7 @@ use borrow.Author.Tests.{lt-ltb, le-ltb}
 use Rattle.model.proofs.Laws.Base.{bool?, eq?, lt?}
 use Rattle.model.specs.Base.{upd, upd2}
 use Rattle.model.proofs.Laws.Base.{upd-at, upd-other}
-use Rattle.model.specs.State.{State, FrameKind, monitor, is-guest}
+use Rattle.model.specs.State.{State, Frame-kind, monitor, is-guest}
 use Rattle.model.specs.Changes.{zeros, drained, released}
 use Rattle.ledger.specs.Cells.{cell}
 use Rattle.ledger.specs.Layout.{most-frames, frames, kind-in, per-guest, count-part, size-of, kind-of, count-of, state-in, state-of}
@@ -44,10 +44,10 @@ module _ {A : Type 0} (K : A → A) (k : ℕ → A) where
   unfolding below
   below-all n h = fun-ext (λ f. elim (lt? f n) [ inl l ↦ rw (lt-ltb f n l) | inr l ↦ rw (le-ltb f n l) (sym (h f l)) ])
 
-same-rows : {k k′ : ℕ → FrameKind} {c c′ : ℕ → ℕ → ℕ} (s : State) → k ≡ k′ → c ≡ c′ → with-rows k c s ≡ with-rows k′ c′ s
+same-rows : {k k′ : ℕ → Frame-kind} {c c′ : ℕ → ℕ → ℕ} (s : State) → k ≡ k′ → c ≡ c′ → with-rows k c s ≡ with-rows k′ c′ s
 same-rows s p q = λ j. with-rows (p j) (q j) s
 
-module _ (K : FrameKind → FrameKind) (C : (ℕ → ℕ) → ℕ → ℕ) where
+module _ (K : Frame-kind → Frame-kind) (C : (ℕ → ℕ) → ℕ → ℕ) where
   pub none-turned : (l : List ℕ) → Ledger-sound l → Changed (turned-below K C 0) l l
   none-turned l s = record { ledger-sound = s; state = λ ram. sym (none (state-of ram l)) }
     where
@@ -81,7 +81,7 @@ count-past l s f h = fun-ext (λ g. elim (bool? (is-guest g)) [
         go false = refl
 
 -- after the last turn
-pub turned-all : (K : FrameKind → FrameKind) (C : (ℕ → ℕ) → ℕ → ℕ) (m l : List ℕ) → Ledger-sound l → K monitor ≡ monitor → C zeros ≡ zeros → turned-below K C (size-of l) (state-of m l) ≡ all-turned K C (state-of m l)
+pub turned-all : (K : Frame-kind → Frame-kind) (C : (ℕ → ℕ) → ℕ → ℕ) (m l : List ℕ) → Ledger-sound l → K monitor ≡ monitor → C zeros ≡ zeros → turned-below K C (size-of l) (state-of m l) ≡ all-turned K C (state-of m l)
 unfolding turned-below all-turned state-in
 turned-all K C m l s p q = same-rows (state-of m l)
     (below-all K (kind-of l) (size-of l) (λ f h. let e : kind-of l f ≡ monitor = unfold kind-in in rw (le-ltb f (size-of l) h) in rw e p))

@@ -6,7 +6,7 @@ use Prim.Native.Nat.{ℕ}
 use native.Mathlib.Omega.{arith}
 use lib.Dec.{eqb, ltb}
 use borrow.Author.Tests.{ltb-true, eq-eqb}
-use Rattle.model.specs.State.{State, FrameKind, free, draining-page, is-free, is-page-of, total}
+use Rattle.model.specs.State.{State, Frame-kind, free, draining-page, is-free, is-page-of, total}
 use Rattle.model.specs.Changes.{becomes, drained}
 use Rattle.model.specs.Operations.{done, refusal, take}
 use Rattle.model.proofs.Invariant.Kinds.{page-of-is}
@@ -23,10 +23,10 @@ use Rattle.monitor_contract.proofs.Laws.LedgerOnly.{changed-so}
 use Rattle.monitor_give_take.specs.Take.{taking}
 
 module _ {m l : List ℕ} (ok : Sound m l) (f g : ℕ) (h : refusal (take (state-of m l) f g) ≡ 0) where
-  abbrev after : FrameKind → State
+  abbrev after : Frame-kind → State
   after k = becomes (state-of m l) f k (word-of m) (shared-of l)
 
-  abbrev then-kind : FrameKind
+  abbrev then-kind : Frame-kind
   then-kind = cond (dirty-of l g) (draining-page g) free
 
   take-passed : Owned l f g g × (take (state-of m l) f g ≡ done (after then-kind))
@@ -44,7 +44,7 @@ module _ {m l : List ℕ} (ok : Sound m l) (f g : ℕ) (h : refusal (take (state
   pub take-not-free : is-free (kind-of l f) ≡ false
   take-not-free = rw (take-owned .its-page)
 
-  take-end : {φ : State → State} (l′ : List ℕ) (k : FrameKind) → k ≡ then-kind → φ (state-of m l) ≡ with-kind f k (state-of m l) → Changed φ l l′ → Done (taking f g) m l m l′
+  take-end : {φ : State → State} (l′ : List ℕ) (k : Frame-kind) → k ≡ then-kind → φ (state-of m l) ≡ with-kind f k (state-of m l) → Changed φ l l′ → Done (taking f g) m l m l′
   take-end l′ k e q c =
       changed-so (taking f g) (after then-kind) ok (λ x y. take-good (state-of m l) (ok .core) x y f g) (take-passed .1) c
       (q ∙ same ∙ ap after e) (unfold becomes in refl)

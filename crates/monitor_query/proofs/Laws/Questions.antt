@@ -6,7 +6,7 @@ use Prim.Native.Nat.{ℕ, _+_, _*_, _<_, _≤_, _^_}
 use native.Mathlib.Omega.{arith}
 use borrow.Author.Tests.{lt-ltb}
 use Rattle.memory.specs.Word.{word-at}
-use Rattle.model.specs.State.{FrameKind, monitor, free, table, draining-table, page, draining-page, page-count, total}
+use Rattle.model.specs.State.{Frame-kind, monitor, free, table, draining-table, page, draining-page, page-count, total}
 use Rattle.model.specs.Cache.{Access}
 use Rattle.model.specs.Bytes.{Image, access, answers}
 use Rattle.model.proofs.Invariant.Core.{in-room}
@@ -19,7 +19,7 @@ use Rattle.ledger.specs.Sound.{Sound}
 use Rattle.monitor_query.specs.declared.FrameKind.{FrameKind}
 use Rattle.monitor_query.specs.Questions.{kind-told, frame-told, translated, by-number}
 
-by-sort : (x : FrameKind) (n : ℕ) → by-number (sort x) (guest-in x) n ≡ kind-told x n
+by-sort : (x : Frame-kind) (n : ℕ) → by-number (sort x) (guest-in x) n ≡ kind-told x n
 unfolding by-number
 by-sort monitor n = refl
 by-sort free n = refl

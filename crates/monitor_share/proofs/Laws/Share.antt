@@ -8,7 +8,7 @@ use lib.Dec.{eqb, ltb}
 use borrow.Author.Tests.{ltb-true}
 use Rattle.model.specs.Base.{upd, upd2}
 use Rattle.model.proofs.Laws.Base.{and-true}
-use Rattle.model.specs.State.{State, FrameKind, page, is-page-of}
+use Rattle.model.specs.State.{State, Frame-kind, page, is-page-of}
 use Rattle.model.specs.Changes.{becomes}
 use Rattle.model.specs.Operations.{done, refusal, check, narrows, share, unshare}
 use Rattle.model.specs.Cache.{Caches}
@@ -72,7 +72,7 @@ module _ {m l : List ℕ} (ok : Sound m l) (g f h : ℕ) where
       stays = sym (upd-self (kind-of l) f) ∙ ap (upd (kind-of l) f) (x .its-page)
 
       same : with-share f h how (state-of m l) ≡ after how
-      same = unfold with-share remade becomes state-in in ap (λ (K : ℕ → FrameKind). remade (state-of m l) K (upd2 (shared-of l) f h how) (count-of l) (exists-of l) (root-of l) (dirty-of l) (word-of m)) stays
+      same = unfold with-share remade becomes state-in in ap (λ (K : ℕ → Frame-kind). remade (state-of m l) K (upd2 (shared-of l) f h how) (count-of l) (exists-of l) (root-of l) (dirty-of l) (word-of m)) stays
 
   module _ (w : ℕ) (r : refusal (share (state-of m l) g f h w) ≡ 0) where
     share-passed : Owned l f g h × (share (state-of m l) g f h w ≡ done (after (extent w)))

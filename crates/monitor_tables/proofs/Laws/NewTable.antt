@@ -8,7 +8,7 @@ use native.Mathlib.Nat.{div-add-mod'}
 use lib.ListN.{length}
 use Rattle.model.specs.Base.{upd, upd2}
 use Rattle.model.proofs.Laws.Base.{upd-same, upd-other}
-use Rattle.model.specs.State.{State, FrameKind, free, table, page, page-count, is-guest, free-frames}
+use Rattle.model.specs.State.{State, Frame-kind, free, table, page, page-count, is-guest, free-frames}
 use Rattle.model.specs.Entry.{empty, table-entry}
 use Rattle.model.specs.Translate.{upper, index, entry-at}
 use Rattle.model.specs.Changes.{zeros, with-table, grow}
@@ -83,8 +83,8 @@ module _ {m l : List ℕ} {g v k t : ℕ} (w : Growing m l g v (suc k) t) {p u :
     guest = g;
     height = k;
     range = p;
-    above = ap (λ (x : ℕ → FrameKind). x t) kinds ∙ upd-other (kind-of l) u (table g k p) t apart ∙ serving ∙ ap (table g (suc k)) one-up;
-    below = ap (λ (x : ℕ → FrameKind). x u) kinds ∙ upd-same (kind-of l) u (table g k p);
+    above = ap (λ (x : ℕ → Frame-kind). x t) kinds ∙ upd-other (kind-of l) u (table g k p) t apart ∙ serving ∙ ap (table g (suc k)) one-up;
+    below = ap (λ (x : ℕ → Frame-kind). x u) kinds ∙ upd-same (kind-of l) u (table g k p);
     place = refl;
   }
 
