@@ -12,7 +12,7 @@ import tally
 HERE = pathlib.Path(__file__).resolve().parent
 COMMAND = HERE.parent / "pageledger"
 BUILT = HERE.parent / "target" / "bin" / "pageledger"
-SCRIPT = HERE / "worked-image.script"
+SCRIPT = HERE / "scripts" / "worked-image.script"
 ANSWERS = SCRIPT.with_suffix(".expected").read_bytes()
 
 
@@ -25,7 +25,7 @@ def refused(*words, command=COMMAND, **how):
 
 
 def tour():
-    page = (HERE / "tour.page").read_bytes()
+    page = (HERE / "scripts" / "tour.page").read_bytes()
     wide = [line for line in page.decode().splitlines() if len(line) > 80]
     if wide:
         return f"wider than 80 columns: {wide}"
