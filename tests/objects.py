@@ -151,7 +151,8 @@ def check_functions(say, functions):
     say("has code", None if len(words) > 100 else f"{len(words)} instructions")
     exported = {name: list(steps(functions, name)) for name in functions if name.startswith("pageledger_")}
     small = {name: small_loads(s, 8 if name in WALKS else 4) for name, s in exported.items()}
-    say("reads RAM by no load of fewer than 64 bits", ", ".join(f"{name} has loads of {found} bytes" for name, found in small.items() if found))
+    found = ", ".join(f"{name} has loads of {sizes} bytes" for name, sizes in small.items() if sizes)
+    say("reads RAM by no load of fewer than 64 bits", found)
     wrong = [name for name, least in READS.items() if sum(loads_descriptor(word) for word, _ in exported[name]) < least]
     say("reads a descriptor by one 64-bit load", wrong and f"{', '.join(wrong)}: too few ldr x, [x, x]")
     wrote = {name: writes_to_ram(s) for name, s in exported.items()}
@@ -190,7 +191,8 @@ def check_archive(count, folder, machine, functions):
         say("has all that it wants", listed(set().union(*(o.wanted for o in objects)) - defined))
         say("its helpers are these three alone", listed(set().union(*(o.defined for o in helpers)) ^ HELPERS))
         clears = [w for o in helpers for w in o.functions["memset"].words] if helpers else []
-        say("clears by 64-bit stores", None if any(one_register(w) and one_register(w)[:2] == (8, False) for w in clears) else "it does not")
+        wide = any(one_register(w) and one_register(w)[:2] == (8, False) for w in clears)
+        say("clears by 64-bit stores", None if wide else "it does not")
         say("uses no vector register", "it does" if any(uses_vectors(w) for o in objects for w in o.instructions()) else None)
     else:
         say("has no helpers", listed(o.name for o in helpers))

@@ -1,5 +1,5 @@
 #!/usr/bin/env python3
-"""pages.py: tools/assurance, architecture, repeats and figures notice what they should, on a small tree of their own."""
+"""pages.py: tools/assurance, architecture, repeats and figures notice what they should, on a small tree of their own. Wants git."""
 
 import pathlib
 import shutil
@@ -9,7 +9,8 @@ import tempfile
 import tally
 
 TOOLS = pathlib.Path(__file__).resolve().parent.parent / "tools"
-ROW = "| 1 | it ends | `low/specs/Word: wordAt`, `low/proofs/Theorems/Ends: ends`, TRUST 2 | `low::read::word` | `low/must-fail/wrong`, `tests/it.py: first` |"
+ROW = ("| 1 | it ends | `low/specs/Word: wordAt`, `low/proofs/Theorems/Ends: ends`, TRUST 2 | `low::read::word` "
+       "| `low/must-fail/wrong`, `tests/it.py: first` |")
 TREE = {
     "crates.txt": "low:\nhigh: low\n",
     "crates/low/src/lib.rt": "// What is low.\npub mod read;\n",
@@ -138,7 +139,8 @@ def check_repeats(count):
         edited(room, "docs/DECISIONS.md", "Nothing.", "Short: `low/src/read.rt: word` and `low/src/read.rt: half`.")
         count.check("with its reason", wants(run(room, "repeats", "15"), 0, "1 that repeat have their reason, 0 things are wrong"))
         edited(room, "crates/low/src/read.rt", "place", "half(place)")
-        count.check("a reason gone stale", wants(run(room, "repeats", "15"), 1, "a reason for low/src/read.rt: half, which does not repeat"))
+        stale = "a reason for low/src/read.rt: half, which does not repeat"
+        count.check("a reason gone stale", wants(run(room, "repeats", "15"), 1, stale))
 
 
 def check_figures(count):
@@ -158,8 +160,7 @@ def main():
     check_assurance(count)
     check_architecture(count)
     check_repeats(count)
-    if shutil.which("git"):
-        check_figures(count)
+    check_figures(count)
     count.finish()
 
 
