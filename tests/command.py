@@ -59,7 +59,8 @@ def without_rt(place):
 
 def bare(command, place, *words):
     """Runs one of our commands where there is no rt, so that all it can do is to look at its words."""
-    return subprocess.run([HERE.parent / command, *words], stdin=subprocess.DEVNULL, capture_output=True, text=True, env={"PATH": str(place)})
+    command = [HERE.parent / command, *words]
+    return subprocess.run(command, stdin=subprocess.DEVNULL, capture_output=True, text=True, env={"PATH": str(place)})
 
 
 def helps(command, place):

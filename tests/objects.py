@@ -206,7 +206,7 @@ def check_archive(count, folder, machine, functions):
 def main():
     count = tally.Tally()
     functions = functions_of_header()
-    count.check("the header has functions", None if functions else "none was found")
+    count.demand("the header has functions", None if functions else "none was found")
     for folder, machine in (("x86_64-linux", X86_64), ("aarch64-linux", AARCH64), ("aarch64-none-elf", AARCH64)):
         try:
             check_archive(count, folder, machine, functions)
