@@ -1,20 +1,25 @@
 #!/usr/bin/env python3
-"""link.py: the header is clean C and C++, the examples link the library and print what they should, programs for Arm link it with
-nothing beside it, the same walks and operations come out alike on x86-64 and on Arm, and the Rust crate agrees with a second
-implementation of documents 01 and 03. Wants the kit, cc, c++ and cargo, and out/ as ./build writes it; and for Arm on another
-machine, where they are there, Debian's gcc-aarch64-linux-gnu and qemu-user."""
+"""link.py [PART...]: programs link the library and run. The parts, all of them where none is named, want the kit, out/ as ./build writes
+it, and:
+
+  alone   nothing more: programs for Arm link the library with nothing beside it
+  c       cc and c++: the header is clean C and C++, the examples print what they should, and so does tests/digest.c
+  arm     Debian's gcc-aarch64-linux-gnu and qemu-user, on an Arm machine cc: tests/digest.c prints the same over both Arm libraries
+  rust    cc and cargo: the examples in Rust, and the crate host/ beside a second implementation of documents 01 and 03
+"""
 
 import os
 import pathlib
 import platform
 import re
-import shutil
 import subprocess
+import sys
 import tempfile
 
 import tally
 
 HERE = pathlib.Path(__file__).resolve().parent.parent
+HOST = f"{platform.machine()}-linux"
 # The examples, in C and in Rust, and what each prints.
 EXAMPLES = {"walk": "0x40001abc fetched 4\n", "monitor": "0x40008abc fetched 4\ntake answers 13\n"}
 HOST_TESTS = {"walks", "sizes", "worked_image", "operations", "wrong_answers", "cases::section_5", "cases::runs_out", "cases::set_up",
@@ -55,38 +60,41 @@ def linked_alone(folder, triple, helpers, work):
             or run([tools / "ld.lld", f"{program}.o", library, "-o", program]))
 
 
-def digests(work):
-    """Yields each library that can be run here, with what is wrong with what tests/digest.c prints over it, or None."""
-    here, expected = f"{platform.machine()}-linux", (HERE / "tests/digest.numbers").read_text()
-    builds = {here: (["cc"], [])}
-    if shutil.which("aarch64-linux-gnu-gcc") and shutil.which("qemu-aarch64"):
-        builds |= {folder: (["aarch64-linux-gnu-gcc", "-static"], ["qemu-aarch64"]) for folder in ("aarch64-linux", "aarch64-none-elf")}
-    else:
-        print("no aarch64-linux-gnu-gcc and qemu-aarch64 here: of the libraries only that of this machine was run")
-    for folder, (compiler, runner) in builds.items():
-        command = [*compiler, "-std=c99", "-O2", *STRICT, "-Iout/include", "tests/digest.c", f"out/{folder}/libpageledger.a", "-o", f"{work}/digest"]
-        yield folder, run(command) or run([*runner, f"{work}/digest"], expected)
+def digest(folder, work, compiler=("cc",), runner=()):
+    """What is wrong with what tests/digest.c prints over a library, or None."""
+    expected = (HERE / "tests/digest.numbers").read_text()
+    sources = ["-Iout/include", "tests/digest.c", f"out/{folder}/libpageledger.a"]
+    return run([*compiler, "-std=c99", "-O2", *STRICT, *sources, "-o", f"{work}/digest"]) or run([*runner, f"{work}/digest"], expected)
 
 
-def main():
-    count = tally.Tally()
-    library = HERE / "out" / f"{platform.machine()}-linux" / "libpageledger.a"
+def check_alone(count, work):
+    count.check("a program for aarch64-linux", linked_alone("aarch64-linux", "aarch64-unknown-linux-gnu", ["memset"], work))
+    count.check("a program for aarch64-none-elf", linked_alone("aarch64-none-elf", "aarch64-none-elf", [], work))
+
+
+def check_c(count, work):
     for compiler, language, standard in (("cc", "c", "c99"), ("cc", "c", "c11"), ("c++", "c++", "c++11"), ("c++", "c++", "c++17")):
         command = [compiler, "-x", language, f"-std={standard}", *STRICT, "-fsyntax-only", "out/include/pageledger.h"]
         count.check(f"the header as {standard}", run(command))
-    with tempfile.TemporaryDirectory() as work:
-        for compiler, language, standard in (("cc", "c", "c99"), ("c++", "c++", "c++11")):
-            for name, expected in EXAMPLES.items():
-                program = f"{work}/{name}-{standard}"
-                command = [compiler, "-x", language, f"-std={standard}", *STRICT, "-Iout/include", f"examples/{name}.c",
-                           "-x", "none", library, "-o", program]
-                count.check(f"examples/{name}.c as {standard}", run(command) or run([program], expected))
-        for folder, triple, helpers in (("aarch64-linux", "aarch64-unknown-linux-gnu", ["memset"]), ("aarch64-none-elf", "aarch64-none-elf", [])):
-            count.check(f"a program for {folder}", linked_alone(folder, triple, helpers, work))
-        for folder, problem in digests(work):
-            count.check(f"the same answers from out/{folder}", problem)
-        command = ["cc", "-std=c11", "-O2", "-fno-builtin", *STRICT, "tests/memory.c", "-o", f"{work}/memory"]
-        count.check("support/memory.c beside the C library's", run(command) or run([f"{work}/memory"], "23960 of 23960 agree\n"))
+    for compiler, language, standard in (("cc", "c", "c99"), ("c++", "c++", "c++11")):
+        for name, expected in EXAMPLES.items():
+            program = f"{work}/{name}-{standard}"
+            command = [compiler, "-x", language, f"-std={standard}", *STRICT, "-Iout/include", f"examples/{name}.c",
+                       "-x", "none", HERE / "out" / HOST / "libpageledger.a", "-o", program]
+            count.check(f"examples/{name}.c as {standard}", run(command) or run([program], expected))
+    count.check(f"the answers of out/{HOST}", digest(HOST, work))
+    command = ["cc", "-std=c11", "-O2", "-fno-builtin", *STRICT, "tests/memory.c", "-o", f"{work}/memory"]
+    count.check("support/memory.c beside the C library's", run(command) or run([f"{work}/memory"], "23960 of 23960 agree\n"))
+
+
+def check_arm(count, work):
+    native = platform.machine() == "aarch64"
+    compiler, runner = (["cc", "-static"], []) if native else (["aarch64-linux-gnu-gcc", "-static"], ["qemu-aarch64"])
+    for folder in ("aarch64-linux", "aarch64-none-elf"):
+        count.check(f"the answers of out/{folder}", digest(folder, work, compiler, runner))
+
+
+def check_rust(count, _):
     cargo = {"CARGO_TARGET_DIR": str(HERE / "target/host"), "CARGO_NET_OFFLINE": "true"}
     for name, expected in EXAMPLES.items():
         command = ["cargo", "run", "--quiet", "--manifest-path", "examples/rust/Cargo.toml", "--bin", name]
@@ -98,7 +106,19 @@ def main():
             print(line)
     ran = set(re.findall(r"^test ([\w:]+) \.\.\.", run.printed, re.M))
     count.check("host/ builds, and its tests run", problem or (None if HOST_TESTS <= ran else f"ran {sorted(ran)}"))
+
+
+PARTS = {"alone": check_alone, "c": check_c, "arm": check_arm, "rust": check_rust}
+
+
+def main(parts):
+    if not set(parts) <= set(PARTS):
+        sys.exit(__doc__)
+    count = tally.Tally()
+    with tempfile.TemporaryDirectory() as work:
+        for part in parts or PARTS:
+            PARTS[part](count, work)
     count.finish()
 
 
-main()
+main(sys.argv[1:])

@@ -1,5 +1,5 @@
 #!/usr/bin/env python3
-"""pages.py: tools/assurance, architecture, repeats and figures notice what they should, on a small tree of their own."""
+"""pages.py: tools/assurance, architecture, repeats and figures notice what they should, on a small tree of their own. Wants git."""
 
 import pathlib
 import shutil
@@ -9,7 +9,8 @@ import tempfile
 import tally
 
 TOOLS = pathlib.Path(__file__).resolve().parent.parent / "tools"
-ROW = "| 1 | it ends | `low/specs/Word: wordAt`, `low/proofs/Theorems/Ends: ends`, TRUST 2 | `low::read::word` | `low/must-fail/wrong`, `tests/it.py: first` |"
+ROW = ("| 1 | it ends | `low/specs/Word: wordAt`, `low/proofs/Theorems/Ends: ends`, TRUST 2 | `low::read::word` "
+       "| `low/must-fail/wrong`, `tests/it.py: first` |")
 TREE = {
     "crates.txt": "low:\nhigh: low\n",
     "crates/low/src/lib.rt": "// What is low.\npub mod read;\n",
@@ -25,6 +26,22 @@ TREE = {
     "docs/DECISIONS.md": "# Page\n\n### 1. What repeats, and stays\nNothing.\n\n## End\n",
     "docs/ARCHITECTURE.md": "# Page\n\n| step | code |\n|---|---|\n| 1 | `low::read::word` |\n",
 }
+# Crates of three bands, of which each uses the next.
+BANDS = {
+    "crates.txt": "memory:\nmonitor: memory\nscript: monitor\n",
+    "crates/memory/src/lib.rt": "// A word.\npub fn word() {\n}\n",
+    "crates/monitor/src/lib.rt": "// A monitor.\npub fn map() {\n    memory::word();\n}\n",
+    "crates/script/src/lib.rt": "// A line.\npub fn line() {\n    monitor::map();\n}\n",
+    "docs/TRUST.md": "",
+}
+# What is done to these, and what tools/architecture --check then says.
+BAND_FAULTS = [
+    ("crates/script/src/lib.rt", "monitor::map();", "", "is not what the crates give"),
+    ("crates/script/src/lib.rt", "monitor::map();", "monitor::map();\n    memory::word();", "is not what the crates give"),
+    ("crates/memory/src/lib.rt", "// A word.", "// A byte.", "is not what the crates give"),
+    ("crates/memory/src/lib.rt", "() {", "() {\n    script::line();", "memory uses script, which is in a band above it"),
+    ("crates.txt", "script: monitor\n", "", "crates.txt and the folder crates differ in script"),
+]
 # What is done to the tree (a file, what stands there, what stands there then), and what tools/assurance then says.
 FAULTS = [
     ("docs/ASSURANCE.md", "Word: wordAt", "Word: wordIn", "no wordIn there"),
@@ -46,9 +63,9 @@ FAULTS = [
 ]
 
 
-def made(room):
-    """The small tree, with today's tools."""
-    for file, text in TREE.items():
+def made(room, tree=TREE):
+    """A small tree, with today's tools."""
+    for file, text in tree.items():
         path = pathlib.Path(room, file)
         path.parent.mkdir(parents=True, exist_ok=True)
         path.write_text(text, encoding="utf-8")
@@ -92,14 +109,24 @@ def check_assurance(count):
 
 def check_architecture(count):
     with tempfile.TemporaryDirectory() as room:
-        made(room)
+        made(room, BANDS)
         count.check("no picture", wants(run(room, "architecture", "--check"), 1, "is not what the crates give"))
         count.check("a picture", wants(run(room, "architecture"), 0, "wrote"))
-        picture = pathlib.Path(room, "docs/architecture.svg").read_text(encoding="utf-8")
-        count.check("its arc", None if picture.count("marker-end") == 1 else "there is not one arc")
         count.check("today's picture", wants(run(room, "architecture", "--check"), 0, "is what the crates give"))
-        edited(room, "crates/high/src/main.rt", "low::read::word(1);", "")
-        count.check("a picture gone stale", wants(run(room, "architecture", "--check"), 1, "is not what the crates give"))
+        picture = pathlib.Path(room, "docs/architecture.svg").read_text(encoding="utf-8")
+        names = [name for name in ("memory", "monitor", "script") if picture.count(f'class="name">{name}<') != 1]
+        count.check("its crates", f"not once: {names}" if names else None)
+        arrows = picture.count("marker-end") - 1, picture.count("<circle") - 1  # but for the legend's
+        count.check("its arrows", None if arrows == (2, 2) else f"{arrows} arrows and dots")
+    for file, old, new, says in BAND_FAULTS:
+        with tempfile.TemporaryDirectory() as room:
+            made(room, BANDS)
+            run(room, "architecture")
+            edited(room, file, old, new)
+            count.check(f"{file}: {new}", wants(run(room, "architecture", "--check"), 1, says))
+    with tempfile.TemporaryDirectory() as room:
+        made(room)
+        count.check("a crate of no band", wants(run(room, "architecture"), 1, "low stands in no band"))
 
 
 def check_repeats(count):
@@ -112,7 +139,8 @@ def check_repeats(count):
         edited(room, "docs/DECISIONS.md", "Nothing.", "Short: `low/src/read.rt: word` and `low/src/read.rt: half`.")
         count.check("with its reason", wants(run(room, "repeats", "15"), 0, "1 that repeat have their reason, 0 things are wrong"))
         edited(room, "crates/low/src/read.rt", "place", "half(place)")
-        count.check("a reason gone stale", wants(run(room, "repeats", "15"), 1, "a reason for low/src/read.rt: half, which does not repeat"))
+        stale = "a reason for low/src/read.rt: half, which does not repeat"
+        count.check("a reason gone stale", wants(run(room, "repeats", "15"), 1, stale))
 
 
 def check_figures(count):
@@ -132,8 +160,7 @@ def main():
     check_assurance(count)
     check_architecture(count)
     check_repeats(count)
-    if shutil.which("git"):
-        check_figures(count)
+    check_figures(count)
     count.finish()
 
 
