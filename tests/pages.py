@@ -28,7 +28,7 @@ TREE = {
     "docs/assurance/low.md": f"# Page\n\n{HEAD}{ROW}\n",
     "docs/assurance/more.md": f"# Page\n\n{HEAD}{MORE}\n",
     "docs/DECISIONS.md": "# Page\n\n### 1. What repeats, and stays\nNothing.\n\n## End\n",
-    "docs/ARCHITECTURE.md": "# Page\n\n| step | code |\n|---|---|\n| 1 | `low::read::word` |\n",
+    "docs/ARCHITECTURE.md": "# Page\n\n| step | code |\n|---|---|\n| 1 | `low::read::word` |\n| 2 | `crates/low`, `crates/high` |\n",
 }
 # What is done to the tree (a file, what stands there, what stands there then), and what tools/assurance then says.
 FAULTS = [
@@ -44,6 +44,8 @@ FAULTS = [
     ("docs/assurance/low.md", ROW, "| 1 | it ends | by luck | none | none |", "nothing carries it"),
     ("docs/assurance/low.md", ROW, "| 1 | it ends | it does | `low::read::word` | none |", "a theorem that no row names"),
     ("docs/ARCHITECTURE.md", "read::word", "read::worse", "no such function"),
+    ("docs/ARCHITECTURE.md", "crates/low", "crates/deep", "no such crate"),
+    ("docs/ARCHITECTURE.md", ", `crates/high`", "", "crates/high: a crate that docs/ARCHITECTURE.md does not name"),
     ("crates/low/src/read.rt", "pub fn word", "pub fn byte() {\n}\n\npub fn word", "low::read::byte: a public function that no row names"),
     ("crates/low/src/read.rt", "pub fn word", "pub fn words", "no such function"),
     ("crates/low/proofs/Theorems/Ends.antt", "ends", "stops", "no ends there"),
