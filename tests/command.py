@@ -13,9 +13,9 @@ import tally
 HERE = pathlib.Path(__file__).resolve().parent
 COMMAND = HERE.parent / "pageledger"
 BUILT = HERE.parent / "target" / "bin" / "pageledger"
-PAGES = [HERE.parent / page for page in ("README.md", "docs/SCRIPT.md", "docs/REFERENCE.md")]
 SCRIPT = HERE / "worked-image.script"
 ANSWERS = SCRIPT.with_suffix(".expected").read_bytes()
+PAGES = [HERE.parent / page for page in ("README.md", "docs/SCRIPT.md", "docs/REFERENCE.md")]
 
 
 def refused(*words, command=COMMAND, **how):

@@ -8,10 +8,10 @@ import tempfile
 
 import tally
 
-TOOLS = pathlib.Path(__file__).resolve().parent.parent / "tools"
-ROW = "| 1 | it ends | `low/specs/Word: wordAt`, `low/proofs/Theorems/Ends: ends`, TRUST 2 | `low::read::word` | `low/must-fail/wrong`, `tests/it.py: first` |"
 HEAD = "| no. | sentence | statement | code | noticed by |\n|---|---|---|---|---|\n"
 MORE = "| 2 | it reads | `low/specs/Word: wordAt` | `low::read::word` | none |"
+TOOLS = pathlib.Path(__file__).resolve().parent.parent / "tools"
+ROW = "| 1 | it ends | `low/specs/Word: wordAt`, `low/proofs/Theorems/Ends: ends`, TRUST 2 | `low::read::word` | `low/must-fail/wrong`, `tests/it.py: first` |"
 TREE = {
     "crates.txt": "low:\nhigh: low\n",
     "crates/low/src/lib.rt": "// What is low.\npub mod read;\n",
