@@ -5,8 +5,8 @@ use mathlib.Core.Bool.{cond}
 use mathlib.Core.List.{List, [], _∷_, _++_}
 use lib.ListN.{length, drop}
 use lib.Dec.{ltb}
-use Rattle.walk_descriptor.specs.declared.Kind.{Kind}
-use Rattle.walk_descriptor.specs.declared.Kind.the-variants.{WalkAbort, Translation, NotModelled, AccessFlag, Permission}
+use Rattle.walk_descriptor.specs.declared.FaultKind.{FaultKind}
+use Rattle.walk_descriptor.specs.declared.FaultKind.the-variants.{WalkAbort, Translation, NotModelled, AccessFlag, Permission}
 use Rattle.walk.specs.declared.Answer.{Answer}
 use Rattle.walk.specs.declared.Answer.the-variants.{Found, Fault, During, Refused}
 use Rattle.monitor_query.specs.declared.FrameKind.{FrameKind}
@@ -14,7 +14,7 @@ use Rattle.monitor_query.specs.declared.FrameKind.the-variants.{Outside, Monito
 use Rattle.monitor_query.specs.declared.GuestKind.{GuestKind}
 use Rattle.monitor_query.specs.declared.GuestKind.the-variants.{Nobody, Absent, Present}
 
-abbrev pub number : Kind → ℕ
+abbrev pub number : FaultKind → ℕ
 number WalkAbort = 1
 number Translation = 2
 number NotModelled = 3

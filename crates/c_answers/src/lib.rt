@@ -8,17 +8,17 @@ ghost use Rattle.c_answers.specs.Answer.{number, numbers, frame-numbers,
 use monitor_query::FrameKind;
 use monitor_query::GuestKind;
 use walk::Answer;
-use walk::Kind;
+use walk::FaultKind;
 
-fn kind_number(kind: Kind) -> u64
+fn kind_number(kind: FaultKind) -> u64
     ensures { λ r. ⌜ r ≡ number kind ⌝ }
 {
     match kind {
-        Kind::WalkAbort => 1,
-        Kind::Translation => 2,
-        Kind::NotModelled => 3,
-        Kind::AccessFlag => 4,
-        Kind::Permission => 5,
+        FaultKind::WalkAbort => 1,
+        FaultKind::Translation => 2,
+        FaultKind::NotModelled => 3,
+        FaultKind::AccessFlag => 4,
+        FaultKind::Permission => 5,
     }
 }
 

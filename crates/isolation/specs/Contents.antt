@@ -5,20 +5,23 @@ use mathlib.Core.List.{List}
 use Prim.Native.Nat.{ℕ, _+_, _*_, _<_}
 use native.Mathlib.Omega.{arith}
 use lib.ListN.{getD}
-use Rattle.memory.specs.Word.{wordAt}
-use Rattle.model.specs.State.{State, Kind, byte}
+use Rattle.memory.specs.Word.{word-at}
+use Rattle.model.specs.State.{State, Frame-kind, byte}
 use Rattle.model.specs.Operations.{Out, refuse, done}
 use Rattle.model.specs.Bytes.{Image}
-use Rattle.model.specs.Theorems.Contents as C
-use Rattle.model.specs.Theorems.Ram.{ram-byte}
-use Rattle.model.specs.Invariant.Numbers.{placed}
+use Rattle.model_theorems.specs.Contents as C
+use Rattle.model_theorems.specs.Ram.{ram-byte}
+use Rattle.model.proofs.Invariant.Numbers.{placed}
 use Rattle.ledger.specs.Layout.{size-of, first-of, kind-of, state-in, state-of, pick-of}
-use Rattle.ledger.specs.Words.{word-is}
-use Rattle.ledger.specs.Sound.{Sound, chosen}
+use Rattle.ledger.proofs.Laws.Words.{word-is}
+use Rattle.ledger.specs.Sound.{Sound}
+use Rattle.ledger.proofs.Laws.Sound.{chosen}
 use Rattle.monitor.specs.Answers.{Outcome}
-use Rattle.isolation.specs.Calls.{Call, defined, in-model, defined-is, chooses}
-use Rattle.isolation.specs.Slices.{Slices, Called, called, Run, stop, then, joined, Begun}
-use Rattle.isolation.specs.Runs.{are-runs, begun-is, always-sound}
+use Rattle.isolation_runs.specs.Calls.{Call, defined, in-model}
+use Rattle.isolation_runs.proofs.Laws.Calls.{defined-is, chooses}
+use Rattle.isolation_runs.specs.Slices.{Slices, Called, called, Run, stop, then, Begun}
+use Rattle.isolation_runs.proofs.Laws.Slices.{joined}
+use Rattle.isolation_runs.proofs.Laws.Runs.{are-runs, begun-is, always-sound}
 
 -- byte o of frame f in the model is the byte of RAM there
 pub byte-is : (x : Slices) → Sound (x .ram) (x .ledger) → (f o : ℕ) → f < size-of (x .ledger) → o < 4096 → byte (state-of (x .ram) (x .ledger)) f o ≡ getD (x .ram) (f * 4096 + o) 0
@@ -29,7 +32,7 @@ byte-is x ok f o low inside = ram-byte image (x .bytes) f o low inside ∙ ap (�
     image = record {
       base = refl;
       long = let a = ok .ram-fits in omega arith;
-      words = λ f i _ k. sym (word-is (x .ram) f i k) ∙ ap (wordAt (x .ram)) (omega arith);
+      words = λ f i _ k. sym (word-is (x .ram) f i k) ∙ ap (word-at (x .ram)) (omega arith);
     }
 
 module _ {x y : Slices} (z : Slices) (begun : Begun x) (run : Run x y) (c : Call) (r : ℕ) (a : Called c r y z) where
@@ -40,7 +43,7 @@ module _ {x y : Slices} (z : Slices) (begun : Begun x) (run : Run x y) (c : Call
       let after : size-of (z .ledger) ≡ begun-is begun .n = placed (begun-is begun) (are-runs begun (joined run (then (called c r a) stop)) .1) .size in
       omega arith
 
-  pub contents : (f : ℕ) (k : Kind) → kind-of (y .ledger) f ≡ k → C.Held k → f < size-of (y .ledger) → (o : ℕ) → o < 4096 → getD (z .ram) (f * 4096 + o) 0 ≡ getD (y .ram) (f * 4096 + o) 0
+  pub contents : (f : ℕ) (k : Frame-kind) → kind-of (y .ledger) f ≡ k → C.Held k → f < size-of (y .ledger) → (o : ℕ) → o < 4096 → getD (z .ram) (f * 4096 + o) 0 ≡ getD (y .ram) (f * 4096 + o) 0
   unfolding state-in
   contents f k is held low o inside = go (defined c (state-of (y .ram) (y .ledger)) (pick-of (y .ledger))) refl (a .answers .outcome)
     where
@@ -53,6 +56,6 @@ module _ {x y : Slices} (z : Slices) (begun : Begun x) (run : Run x y) (c : Call
           sym (byte-is z (a .answers .sound) f o (omega arith) inside)
           ∙ ap (λ (t : State). byte t f o) (out .1)
           ∙ C.contents (begun-is begun) (are-runs begun run .1) (in-model c (pick-of (y .ledger)))
-          (chooses c (state-of (y .ram) (y .ledger)) (pick-of (y .ledger)) (chosen (y .ledger) (ok .stock) (y .ram)))
+          (chooses c (state-of (y .ram) (y .ledger)) (pick-of (y .ledger)) (chosen (y .ledger) (ok .ledger-sound) (y .ram)))
           s (sym (defined-is c (state-of (y .ram) (y .ledger)) (pick-of (y .ledger))) ∙ e) f k is held o
           ∙ byte-is y ok f o low inside

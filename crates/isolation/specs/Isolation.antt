@@ -6,27 +6,27 @@ use mathlib.Core.Path.{_≡_}
 use mathlib.Core.Bool.{true, false}
 use mathlib.Core.Logic.{_⊎_, _↔_}
 use Prim.Native.Nat.{ℕ, _+_, _<_, _/_, _%_}
-use Rattle.model.specs.State.{State, Kind, page, table, byte}
+use Rattle.model.specs.State.{State, Frame-kind, page, table, byte}
 use Rattle.model.specs.Operations.{done, create}
 use Rattle.model.specs.Cache.{Access}
 use Rattle.model.specs.Machine.{Machine, SetUp, Run, Step, Operation, Create, answer, Chooses, call, Reaches}
-use Rattle.model_moments.specs.Moments.{stores-of, Safe, Throughout, FineRun}
-use Rattle.model.specs.Theorems.Terms.{lends, Allowed, Handed, Laid}
-use Rattle.model.specs.Theorems.Reach as R
-use Rattle.model.specs.Theorems.TwoGuests as T
-use Rattle.model.specs.Theorems.Writing as W
-use Rattle.model.specs.Theorems.Private as P
-use Rattle.model.specs.Theorems.ChangesHands as H
-use Rattle.model.specs.Theorems.BecomesTable as B
-use Rattle.model.specs.Theorems.TakingOut as O
-use Rattle.model.specs.Theorems.NewGuest as N
-use Rattle.model.specs.Theorems.Contents as C
-use Rattle.model_moments.specs.Theorems.Moments as M
-use Rattle.model_moments.specs.Theorems.Finely as F
-use Rattle.model_noninterference.specs.Theorems.TwoRunsTerms.{Two-runs, Same-start}
-use Rattle.model_noninterference.specs.Theorems.TwoRuns as S
-use Rattle.model_noninterference.specs.Theorems.ApartTerms.{Frames, Runs-apart, no-frames, Reads}
-use Rattle.model_noninterference.specs.Theorems.TwoRunsApart as A
+use Rattle.model_moments.specs.Moments.{stores-of, Safe, Throughout, Fine-run}
+use Rattle.model.specs.Terms.{lends, Allowed, Handed, Laid}
+use Rattle.model_theorems.specs.Reach as R
+use Rattle.model_theorems.specs.TwoGuests as T
+use Rattle.model_theorems.specs.Writing as W
+use Rattle.model_theorems.specs.Private as P
+use Rattle.model_theorems.specs.ChangesHands as H
+use Rattle.model_theorems.specs.BecomesTable as B
+use Rattle.model_theorems.specs.TakingOut as O
+use Rattle.model_theorems.specs.NewGuest as N
+use Rattle.model_theorems.specs.Contents as C
+use Rattle.model_theorems.specs.Moments as M
+use Rattle.model_theorems.specs.Finely as F
+use Rattle.model_noninterference.specs.TwoRunsTerms.{Two-runs, Same-start}
+use Rattle.model_theorems.specs.TwoRuns as S
+use Rattle.model_noninterference.specs.ApartTerms.{Frames, Runs-apart, no-frames, Reads}
+use Rattle.model_theorems.specs.TwoRunsApart as A
 
 module _ {m z : Machine} (set-up : SetUp m) (run : Run m z) where
   -- What g reaches is its own page, or a page shared with it for that access, or a frame that drains for it; so never the ledger, which is outside RAM.
@@ -43,7 +43,7 @@ module _ {m z : Machine} (set-up : SetUp m) (run : Run m z) where
   beyond-shared = W.beyond-shared set-up run
 
   -- "no guest reaches a table", nor a frame of the monitor, nor a free one
-  hidden : (f : ℕ) (x : Kind) → z .state .kind f ≡ x → P.Hidden x → (g : ℕ) (w : Access) (a : ℕ) → a / 4096 ≡ z .state .first + f → Reaches z g w a → ⊥
+  hidden : (f : ℕ) (x : Frame-kind) → z .state .kind f ≡ x → P.Hidden x → (g : ℕ) (w : Access) (a : ℕ) → a / 4096 ≡ z .state .first + f → Reaches z g w a → ⊥
   hidden = P.hidden set-up run
 
   -- "a page changes hands only when no cache can lead to it and its contents are gone"
@@ -63,7 +63,7 @@ module _ {m z : Machine} (set-up : SetUp m) (run : Run m z) where
   new-guest = N.nothing-yet set-up run
 
   -- contents: no operation changes a byte of a page that stays with its guest
-  contents : (o : Operation) → Chooses (z .state) o → (s′ : State) → answer (z .state) o ≡ done s′ → (f : ℕ) (x : Kind) → z .state .kind f ≡ x → C.Held x → (i : ℕ) → byte s′ f i ≡ byte (z .state) f i
+  contents : (o : Operation) → Chooses (z .state) o → (s′ : State) → answer (z .state) o ≡ done s′ → (f : ℕ) (x : Frame-kind) → z .state .kind f ≡ x → C.Held x → (i : ℕ) → byte s′ f i ≡ byte (z .state) f i
   contents = C.contents set-up run
 
   -- inside an operation, after each single store, each guest reaches only what it was allowed to before
@@ -71,7 +71,7 @@ module _ {m z : Machine} (set-up : SetUp m) (run : Run m z) where
   moments = M.moments set-up run
 
 -- and all of it with the processor looking, and keeping what it finds, after every single store
-reach-finely : {m z : Machine} → SetUp m → FineRun m z → (g : ℕ) (w : Access) (a : ℕ) → Reaches z g w a →
+reach-finely : {m z : Machine} → SetUp m → Fine-run m z → (g : ℕ) (w : Access) (a : ℕ) → Reaches z g w a →
     (f : ℕ) × (a / 4096 ≡ z .state .first + f) × (f < z .state .size) × Allowed (z .state) g f w
 reach-finely = F.reach-finely
 

@@ -1,13 +1,8 @@
--- Isolation is the page to read; Slices and Calls say what a step of the two slices is, and Runs, OnSlices, Contents and TwoComputers what is proved of them.
+-- Isolation is the page to read; OnSlices, Contents and TwoComputers say it of the two slices (crate isolation_runs says what a step of
+-- them is), and BesideItself and Possible that their hypotheses can be met.
 pub mod Isolation
-pub mod Calls
-pub mod Slices
-pub mod StoredByte
-pub mod Steps
-pub mod Runs
-pub mod Answered
-pub mod TwoComputers
-pub mod BesideItself
 pub mod OnSlices
 pub mod Contents
+pub mod TwoComputers
+pub mod BesideItself
 pub mod Possible

@@ -4,25 +4,25 @@ use mathlib.Core.Path.{_≡_, refl, subst}
 use mathlib.Core.Bool.{true, false}
 use mathlib.Core.Logic.{_⊎_}
 use Prim.Native.Nat.{ℕ, _+_, _<_, _/_}
-use Rattle.model.specs.State.{Kind, page, table}
+use Rattle.model.specs.State.{Frame-kind, page, table}
 use Rattle.model.specs.Cache.{Access, Reach}
 use Rattle.model.specs.Machine.{Machine}
 use Rattle.model.specs.Machine as M
-use Rattle.model.specs.Theorems.Terms.{lends, Allowed, Handed, Laid}
-use Rattle.model.specs.Theorems.Reach as R
-use Rattle.model.specs.Theorems.TwoGuests as T
-use Rattle.model.specs.Theorems.Writing as W
-use Rattle.model.specs.Theorems.Private as P
-use Rattle.model.specs.Theorems.ChangesHands as H
-use Rattle.model.specs.Theorems.BecomesTable as B
-use Rattle.model.specs.Theorems.TakingOut as O
-use Rattle.model.specs.Theorems.NewGuest as N
+use Rattle.model.specs.Terms.{lends, Allowed, Handed, Laid}
+use Rattle.model_theorems.specs.Reach as R
+use Rattle.model_theorems.specs.TwoGuests as T
+use Rattle.model_theorems.specs.Writing as W
+use Rattle.model_theorems.specs.Private as P
+use Rattle.model_theorems.specs.ChangesHands as H
+use Rattle.model_theorems.specs.BecomesTable as B
+use Rattle.model_theorems.specs.TakingOut as O
+use Rattle.model_theorems.specs.NewGuest as N
 use Rattle.ledger.specs.Layout.{size-of, first-of, kind-of, shared-of, count-of, dirty-of, state-in, state-of, pick-of}
-use Rattle.isolation.specs.Calls as C
-use Rattle.isolation.specs.Slices.{Slices, machine, Called, Step, Run, Begun}
-use Rattle.isolation.specs.Steps.{after-call, step-is-step}
-use Rattle.isolation.specs.Runs.{are-runs, begun-fits, run-fits}
-use Rattle.isolation.specs.Answered.{done-at-0}
+use Rattle.isolation_runs.specs.Calls as C
+use Rattle.isolation_runs.specs.Slices.{Slices, machine, Called, Step, Run, Begun}
+use Rattle.isolation_runs.proofs.Laws.Steps.{after-call, step-is-step}
+use Rattle.isolation_runs.proofs.Laws.Runs.{are-runs, begun-fits, run-fits}
+use Rattle.isolation_runs.proofs.Laws.Answered.{done-at-0}
 
 -- what a guest reaches by the tables in RAM, or by what the processor may have kept
 abbrev pub Reaches : Slices → (g : ℕ) → Access → (a : ℕ) → Type 0
@@ -46,7 +46,7 @@ module _ {x y : Slices} (begun : Begun x) (run : Run x y) where
   beyond-shared = let r = are-runs begun run in W.beyond-shared (r .0) (r .1)
 
   -- "no guest reaches a table", nor a frame of the monitor, nor a free one
-  pub hidden : (f : ℕ) (k : Kind) → kind-of (y .ledger) f ≡ k → P.Hidden k → (g : ℕ) (w : Access) (a : ℕ) → a / 4096 ≡ first-of (y .ledger) + f → Reaches y g w a → ⊥
+  pub hidden : (f : ℕ) (k : Frame-kind) → kind-of (y .ledger) f ≡ k → P.Hidden k → (g : ℕ) (w : Access) (a : ℕ) → a / 4096 ≡ first-of (y .ledger) + f → Reaches y g w a → ⊥
   unfolding state-in
   hidden = let r = are-runs begun run in P.hidden (r .0) (r .1)
 

@@ -7,13 +7,13 @@ use Prim.Native.Nat.{ℕ, _+_, _*_, _<_}
 use native.Mathlib.Omega.{arith}
 use lib.ListN.{length, getD, set}
 use lib.Seq.{getD-set-same, getD-set-other}
-use Rattle.model.specs.Base.{eq?}
+use Rattle.model.proofs.Laws.Base.{eq?}
 use Rattle.model.specs.Cache.{grown, writing, Reach}
 use Rattle.ledger.specs.Layout.{size-of, first-of, exists-of, state-of}
 use Rattle.ledger.specs.Sound.{Sound}
 use Rattle.monitor.specs.Answers.{Answers}
-use Rattle.isolation.specs.Calls.{Call, defined}
-use Rattle.isolation.specs.Slices.{Slices, kept-after, Called, Stored, Step, called, stored}
+use Rattle.isolation_runs.specs.Calls.{Call, defined}
+use Rattle.isolation_runs.specs.Slices.{Slices, kept-after, Stored, Step, called, stored}
 
 still-bytes : (m : List ℕ) (at b : ℕ) → at < length m → b < 256 → ((i : ℕ) → getD m i 0 < 256) → (i : ℕ) → getD (set m at b) i 0 < 256
 still-bytes m at b room small h i = elim (eq? i at) [

@@ -10,8 +10,8 @@ use mathlib.Core.List.{List}
 use Prim.Native.Nat.{ℕ, _+_, _*_, _-_, _≤_, _<_, _/_, _%_}
 use lib.Dec.{eqb, ltb}
 use lib.ListN.{length}
-use Rattle.memory.specs.Word.{wordAt}
-use Rattle.model.specs.State.{State, Kind, monitor, free, table, draining-table, page, draining-page, is-guest}
+use Rattle.memory.specs.Word.{word-at}
+use Rattle.model.specs.State.{State, Frame-kind, monitor, free, table, draining-table, page, draining-page, is-guest}
 use Rattle.ledger.specs.Cells.{cell}
 
 abbrev pub most-frames : ℕ
@@ -31,7 +31,7 @@ abbrev pub guest-rows : List ℕ → (column g : ℕ) → ℕ
 guest-rows l = cell 0 9 l
 
 -- the numbers of what a frame is are those of model's `sort`
-unfoldable pub kind-at : (k g h p : ℕ) → Kind
+unfoldable pub kind-at : (k g h p : ℕ) → Frame-kind
 kind-at k g h p =
     cond (eqb k 1) free (
     cond (eqb k 2) (table g h p) (
@@ -47,7 +47,7 @@ size-in G = G 4 0
 unfoldable pub first-in : (G : ℕ → ℕ → ℕ) → ℕ
 first-in G = G 5 0 + 4294967296 * G 6 0
 
-unfoldable pub kind-in : (F G : ℕ → ℕ → ℕ) → ℕ → Kind
+unfoldable pub kind-in : (F G : ℕ → ℕ → ℕ) → ℕ → Frame-kind
 kind-in F G f = cond (ltb f (size-in G)) (kind-at (F 0 f) (F 1 f) (F 2 f) (F 3 f)) monitor
 
 unfoldable pub per-guest : (ℕ → ℕ) → (F : ℕ → ℕ → ℕ) → (f g : ℕ) → ℕ
@@ -74,7 +74,7 @@ pick-in F G i = F 12 (G 3 0 - 1 - i)
 
 -- word i of frame f in RAM
 unfoldable pub word-of : List ℕ → (f i : ℕ) → ℕ
-word-of m f i = cond (ltb i 512) (wordAt m (f * 4096 + i * 8)) 0
+word-of m f i = cond (ltb i 512) (word-at m (f * 4096 + i * 8)) 0
 
 -- The state of the two slices.
 unfoldable pub state-in : (F G word : ℕ → ℕ → ℕ) → State
@@ -100,7 +100,7 @@ size-of l = size-in (guest-rows l)
 abbrev pub first-of : List ℕ → ℕ
 first-of l = first-in (guest-rows l)
 
-abbrev pub kind-of : List ℕ → ℕ → Kind
+abbrev pub kind-of : List ℕ → ℕ → Frame-kind
 kind-of l = kind-in (frames l) (guest-rows l)
 
 abbrev pub shared-of : List ℕ → (f g : ℕ) → ℕ

@@ -3,10 +3,7 @@ pub mod Cells
 pub mod Layout
 pub mod FreeSet
 pub mod Fields
-pub mod Stock
-pub mod Laws
 pub mod Kinds
 pub mod Words
-pub mod Stores
 pub mod Sound
-pub mod Beside
+pub mod LedgerSound

@@ -4,10 +4,10 @@ ghost use mathlib.Core.Bool.{true};
 ghost use Prim.Native.Nat.{_<_, _≤_, _^_, _/_, _%_};
 ghost use Rattle.model.specs.State.{is-free, is-page, is-page-of, is-guest, total};
 ghost use Rattle.ledger.specs.Layout.{frames, size-of, kind-of, shared-of, count-of};
-ghost use Rattle.model.specs.Invariant.Kinds.{sort};
+ghost use Rattle.model.specs.State.{sort};
 ghost use Rattle.ledger.specs.Kinds.{guest-in, kind-for};
 ghost use Rattle.ledger.specs.Fields.{with-cell, with-share, with-no-shares, with-count};
-ghost use Rattle.ledger.specs.Stock.{Stock, Changed};
+ghost use Rattle.ledger.specs.LedgerSound.{Ledger-sound, Changed};
 use super::GUESTS;
 use super::cells;
 
@@ -18,7 +18,7 @@ pub struct Totals {
 
 // What it is: 0 monitor, 1 free, 2 table, 3 draining table, 4 page, 5 draining page.
 pub fn kind(ledger: &[u32], f: u64) -> u64
-    requires { ⌜ Stock (now ledger) ⌝ }
+    requires { ⌜ Ledger-sound (now ledger) ⌝ }
     requires { ⌜ f < size-of (now ledger) ⌝ }
     ensures { λ r. ⌜ r ≡ sort (kind-of (now (ledger .entry)) f) ⌝ }
 {
@@ -31,7 +31,7 @@ pub fn kind(ledger: &[u32], f: u64) -> u64
 
 // Whose table or page it is, or for whom it drains; 0 nobody.
 pub fn owner(ledger: &[u32], f: u64) -> u64
-    requires { ⌜ Stock (now ledger) ⌝ }
+    requires { ⌜ Ledger-sound (now ledger) ⌝ }
     requires { ⌜ f < size-of (now ledger) ⌝ }
     ensures { λ r. ⌜ r ≡ guest-in (kind-of (now (ledger .entry)) f) ⌝ }
 {
@@ -42,7 +42,7 @@ pub fn owner(ledger: &[u32], f: u64) -> u64
 }
 
 pub fn is_free(ledger: &[u32], f: u64) -> bool
-    requires { ⌜ Stock (now ledger) ⌝ }
+    requires { ⌜ Ledger-sound (now ledger) ⌝ }
     requires { ⌜ f < size-of (now ledger) ⌝ }
     ensures { λ r. ⌜ r ≡ is-free (kind-of (now (ledger .entry)) f) ⌝ }
 {
@@ -50,7 +50,7 @@ pub fn is_free(ledger: &[u32], f: u64) -> bool
 }
 
 pub fn is_page(ledger: &[u32], f: u64) -> bool
-    requires { ⌜ Stock (now ledger) ⌝ }
+    requires { ⌜ Ledger-sound (now ledger) ⌝ }
     requires { ⌜ f < size-of (now ledger) ⌝ }
     ensures { λ r. ⌜ r ≡ is-page (kind-of (now (ledger .entry)) f) ⌝ }
 {
@@ -59,7 +59,7 @@ pub fn is_page(ledger: &[u32], f: u64) -> bool
 
 // What frame f is if it is stored for guest g, by its number; otherwise 0.
 pub fn kind_for(ledger: &[u32], f: u64, g: u64) -> u64
-    requires { ⌜ Stock (now ledger) ⌝ }
+    requires { ⌜ Ledger-sound (now ledger) ⌝ }
     requires { ⌜ f < size-of (now ledger) ⌝ }
     ensures { λ r. ⌜ r ≡ kind-for (frames (now (ledger .entry))) f g ⌝ }
 {
@@ -70,7 +70,7 @@ pub fn kind_for(ledger: &[u32], f: u64, g: u64) -> u64
 }
 
 pub fn is_page_of(ledger: &[u32], f: u64, g: u64) -> bool
-    requires { ⌜ Stock (now ledger) ⌝ }
+    requires { ⌜ Ledger-sound (now ledger) ⌝ }
     requires { ⌜ f < size-of (now ledger) ⌝ }
     ensures { λ r. ⌜ r ≡ is-page-of (kind-of (now (ledger .entry)) f) g ⌝ }
 {
@@ -79,7 +79,7 @@ pub fn is_page_of(ledger: &[u32], f: u64, g: u64) -> bool
 
 // The cell for guest g, which is two numbers: what is shared with g, and in how many places g maps it.
 fn cell(ledger: &[u32], f: u64, g: u64) -> u64
-    requires { ⌜ Stock (now ledger) ⌝ }
+    requires { ⌜ Ledger-sound (now ledger) ⌝ }
     requires { ⌜ f < size-of (now ledger) ⌝ }
     requires { ⌜ is-guest g ≡ true ⌝ }
     ensures { λ r. ⌜ (r / 1073741824 ≡ shared-of (now (ledger .entry)) f g) × (r % 1073741824 ≡ count-of (now (ledger .entry)) f g) × (r < 2 ^ 32) ⌝ }
@@ -88,7 +88,7 @@ fn cell(ledger: &[u32], f: u64, g: u64) -> u64
 }
 
 fn set_cell(ledger: &mut [u32], f: u64, g: u64, how: u64, c: u64)
-    requires { ⌜ Stock (now ledger) ⌝ }
+    requires { ⌜ Ledger-sound (now ledger) ⌝ }
     requires { ⌜ f < size-of (now ledger) ⌝ }
     requires { ⌜ is-guest g ≡ true ⌝ }
     requires { ⌜ (how < 4) × (c < 2 ^ 30) ⌝ }
@@ -99,7 +99,7 @@ fn set_cell(ledger: &mut [u32], f: u64, g: u64, how: u64, c: u64)
 
 // What is shared with guest g: 0 nothing, 1 reading, 2 writing too.
 pub fn share(ledger: &[u32], f: u64, g: u64) -> u64
-    requires { ⌜ Stock (now ledger) ⌝ }
+    requires { ⌜ Ledger-sound (now ledger) ⌝ }
     requires { ⌜ f < size-of (now ledger) ⌝ }
     requires { ⌜ is-guest g ≡ true ⌝ }
     ensures { λ r. ⌜ r ≡ shared-of (now (ledger .entry)) f g ⌝ }
@@ -109,7 +109,7 @@ pub fn share(ledger: &[u32], f: u64, g: u64) -> u64
 
 // In how many places guest g maps it.
 pub fn count(ledger: &[u32], f: u64, g: u64) -> u64
-    requires { ⌜ Stock (now ledger) ⌝ }
+    requires { ⌜ Ledger-sound (now ledger) ⌝ }
     requires { ⌜ f < size-of (now ledger) ⌝ }
     requires { ⌜ is-guest g ≡ true ⌝ }
     ensures { λ r. ⌜ r ≡ count-of (now (ledger .entry)) f g ⌝ }
@@ -118,7 +118,7 @@ pub fn count(ledger: &[u32], f: u64, g: u64) -> u64
 }
 
 pub fn set_share(ledger: &mut [u32], f: u64, g: u64, how: u64)
-    requires { ⌜ Stock (now ledger) ⌝ }
+    requires { ⌜ Ledger-sound (now ledger) ⌝ }
     requires { ⌜ f < size-of (now ledger) ⌝ }
     requires { ⌜ is-guest g ≡ true ⌝ }
     requires { ⌜ how ≤ 2 ⌝ }
@@ -129,7 +129,7 @@ pub fn set_share(ledger: &mut [u32], f: u64, g: u64, how: u64)
 }
 
 pub fn set_count(ledger: &mut [u32], f: u64, g: u64, c: u64)
-    requires { ⌜ Stock (now ledger) ⌝ }
+    requires { ⌜ Ledger-sound (now ledger) ⌝ }
     requires { ⌜ f < size-of (now ledger) ⌝ }
     requires { ⌜ is-guest g ≡ true ⌝ }
     requires { ⌜ c < 2 ^ 30 ⌝ }
@@ -141,7 +141,7 @@ pub fn set_count(ledger: &mut [u32], f: u64, g: u64, c: u64)
 
 // Shared with nobody.
 pub fn clear_shares(ledger: &mut [u32], f: u64)
-    requires { ⌜ Stock (now ledger) ⌝ }
+    requires { ⌜ Ledger-sound (now ledger) ⌝ }
     requires { ⌜ f < size-of (now ledger) ⌝ }
     ensures { λ _. ⌜ Changed (with-no-shares f) (now (ledger .entry)) (now (ledger .exit)) ⌝ }
 {
@@ -154,7 +154,7 @@ pub fn clear_shares(ledger: &mut [u32], f: u64)
 
 // What all guests together have of it: the places where they map it, and what is shared with them.
 pub fn uses(ledger: &[u32], f: u64) -> Totals
-    requires { ⌜ Stock (now ledger) ⌝ }
+    requires { ⌜ Ledger-sound (now ledger) ⌝ }
     requires { ⌜ f < size-of (now ledger) ⌝ }
     ensures { λ r. ⌜ (r .places ≡ total (count-of (now (ledger .entry)) f)) × (r .shares ≡ total (shared-of (now (ledger .entry)) f)) ⌝ }
 {

@@ -4,12 +4,12 @@ ghost use Prim.Native.Nat.{_<_, _^_};
 ghost use lib.Dec.{eqb};
 ghost use Rattle.ledger.specs.Layout.{exists-of, dirty-of, root-of};
 ghost use Rattle.ledger.specs.Fields.{with-existence, with-dirt, with-root-at};
-ghost use Rattle.ledger.specs.Stock.{Stock, Changed};
+ghost use Rattle.ledger.specs.LedgerSound.{Ledger-sound, Changed};
 use super::cells;
 
 // Any number is asked for: there is no guest beyond the rows.
 pub fn exists(ledger: &[u32], g: u64) -> bool
-    requires { ⌜ Stock (now ledger) ⌝ }
+    requires { ⌜ Ledger-sound (now ledger) ⌝ }
     ensures { λ r. ⌜ r ≡ exists-of (now (ledger .entry)) g ⌝ }
 {
     if 9 <= g {
@@ -19,7 +19,7 @@ pub fn exists(ledger: &[u32], g: u64) -> bool
 }
 
 pub fn dirty(ledger: &[u32], g: u64) -> bool
-    requires { ⌜ Stock (now ledger) ⌝ }
+    requires { ⌜ Ledger-sound (now ledger) ⌝ }
     requires { ⌜ g < 9 ⌝ }
     ensures { λ r. ⌜ r ≡ dirty-of (now (ledger .entry)) g ⌝ }
 {
@@ -27,7 +27,7 @@ pub fn dirty(ledger: &[u32], g: u64) -> bool
 }
 
 pub fn root(ledger: &[u32], g: u64) -> u64
-    requires { ⌜ Stock (now ledger) ⌝ }
+    requires { ⌜ Ledger-sound (now ledger) ⌝ }
     requires { ⌜ g < 9 ⌝ }
     ensures { λ r. ⌜ r ≡ root-of (now (ledger .entry)) g ⌝ }
 {
@@ -36,7 +36,7 @@ pub fn root(ledger: &[u32], g: u64) -> u64
 
 // 1: it exists; 0: it does not.
 pub fn set_existence(ledger: &mut [u32], g: u64, v: u64)
-    requires { ⌜ Stock (now ledger) ⌝ }
+    requires { ⌜ Ledger-sound (now ledger) ⌝ }
     requires { ⌜ (g < 9) × (v < 2) ⌝ }
     ensures { λ _. ⌜ Changed (with-existence g (eqb v 1)) (now (ledger .entry)) (now (ledger .exit)) ⌝ }
 {
@@ -45,7 +45,7 @@ pub fn set_existence(ledger: &mut [u32], g: u64, v: u64)
 
 // 1: it is dirty; 0: it is not.
 pub fn set_dirty(ledger: &mut [u32], g: u64, v: u64)
-    requires { ⌜ Stock (now ledger) ⌝ }
+    requires { ⌜ Ledger-sound (now ledger) ⌝ }
     requires { ⌜ (g < 9) × (v < 2) ⌝ }
     ensures { λ _. ⌜ Changed (with-dirt g (eqb v 1)) (now (ledger .entry)) (now (ledger .exit)) ⌝ }
 {
@@ -53,7 +53,7 @@ pub fn set_dirty(ledger: &mut [u32], g: u64, v: u64)
 }
 
 pub fn set_root(ledger: &mut [u32], g: u64, t: u64)
-    requires { ⌜ Stock (now ledger) ⌝ }
+    requires { ⌜ Ledger-sound (now ledger) ⌝ }
     requires { ⌜ (g < 9) × (t < 2 ^ 32) ⌝ }
     ensures { λ _. ⌜ Changed (with-root-at g t) (now (ledger .entry)) (now (ledger .exit)) ⌝ }
 {

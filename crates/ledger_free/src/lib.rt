@@ -6,7 +6,7 @@ ghost use Rattle.model.specs.State.{free, table, page, is-free};
 ghost use Rattle.model.specs.Changes.{drained, released};
 ghost use Rattle.ledger.specs.Layout.{size-of, kind-of, pick-of, Row};
 ghost use Rattle.ledger.specs.Fields.{with-kind, with-kind-by};
-ghost use Rattle.ledger.specs.Stock.{Stock, Changed, Taken};
+ghost use Rattle.ledger.specs.LedgerSound.{Ledger-sound, Changed, Taken};
 ghost use Rattle.ledger_free.specs.Moves.{placed, exchanged, settled};
 ghost use Rattle.ledger.specs.Sound.{free-of};
 use ledger::cells;
@@ -16,7 +16,7 @@ pub mod start;
 
 // The frame that is taken when any will do.
 pub fn next(ledger: &[u32]) -> u64
-    requires { ⌜ Stock (now ledger) ⌝ }
+    requires { ⌜ Ledger-sound (now ledger) ⌝ }
     requires { ⌜ 0 < free-of (now ledger) ⌝ }
     ensures { λ r. ⌜ (r ≡ pick-of (now (ledger .entry)) 0) × (r < size-of (now (ledger .entry))) × (kind-of (now (ledger .entry)) r ≡ free) ⌝ }
 {
@@ -36,7 +36,7 @@ fn place(ledger: &mut [u32], f: u64, q: u64)
 
 // Frame f and the one at place q change places.
 fn exchange(ledger: &mut [u32], f: u64, q: u64)
-    requires { ⌜ Stock (now ledger) ⌝ }
+    requires { ⌜ Ledger-sound (now ledger) ⌝ }
     requires { ⌜ (f < size-of (now ledger)) × (q < size-of (now ledger)) ⌝ }
     ensures { λ _. ⌜ now (ledger .exit) ≡ exchanged (now (ledger .entry)) f q ⌝ }
 {
@@ -48,7 +48,7 @@ fn exchange(ledger: &mut [u32], f: u64, q: u64)
 
 // Frame f changes places with the one at q and becomes k; so many frames are free then.
 fn settle(ledger: &mut [u32], f: u64, q: u64, k: u64, count: u64)
-    requires { ⌜ Stock (now ledger) ⌝ }
+    requires { ⌜ Ledger-sound (now ledger) ⌝ }
     requires { ⌜ (f < size-of (now ledger)) × (q < size-of (now ledger)) ⌝ }
     requires { ⌜ (k < 2 ^ 32) × (count < 2 ^ 32) ⌝ }
     ensures { λ _. ⌜ now (ledger .exit) ≡ settled (now (ledger .entry)) f q k count ⌝ }
@@ -60,7 +60,7 @@ fn settle(ledger: &mut [u32], f: u64, q: u64, k: u64, count: u64)
 
 // The free frame f leaves the set and becomes k.
 fn occupy(ledger: &mut [u32], f: u64, k: u64)
-    requires { ⌜ Stock (now ledger) ⌝ }
+    requires { ⌜ Ledger-sound (now ledger) ⌝ }
     requires { ⌜ f < size-of (now ledger) ⌝ }
     requires { ⌜ kind-of (now ledger) f ≡ free ⌝ }
     requires { ⌜ k < 2 ^ 32 ⌝ }
@@ -71,7 +71,7 @@ fn occupy(ledger: &mut [u32], f: u64, k: u64)
 }
 
 pub fn become_page(ledger: &mut [u32], f: u64, g: u64)
-    requires { ⌜ Stock (now ledger) ⌝ }
+    requires { ⌜ Ledger-sound (now ledger) ⌝ }
     requires { ⌜ f < size-of (now ledger) ⌝ }
     requires { ⌜ kind-of (now ledger) f ≡ free ⌝ }
     requires { ⌜ g < 9 ⌝ }
@@ -82,7 +82,7 @@ pub fn become_page(ledger: &mut [u32], f: u64, g: u64)
 }
 
 pub fn become_table(ledger: &mut [u32], f: u64, g: u64, h: u64, p: u64)
-    requires { ⌜ Stock (now ledger) ⌝ }
+    requires { ⌜ Ledger-sound (now ledger) ⌝ }
     requires { ⌜ f < size-of (now ledger) ⌝ }
     requires { ⌜ kind-of (now ledger) f ≡ free ⌝ }
     requires { ⌜ (g < 9) × (h < 4) × (p < 2 ^ 27) ⌝ }
@@ -96,7 +96,7 @@ pub fn become_table(ledger: &mut [u32], f: u64, g: u64, h: u64, p: u64)
 
 // Frame f, which is not free, becomes so.
 pub fn put_back(ledger: &mut [u32], f: u64)
-    requires { ⌜ Stock (now ledger) ⌝ }
+    requires { ⌜ Ledger-sound (now ledger) ⌝ }
     requires { ⌜ f < size-of (now ledger) ⌝ }
     requires { ⌜ is-free (kind-of (now ledger) f) ≡ false ⌝ }
     ensures { λ _. ⌜ Changed (with-kind f free) (now (ledger .entry)) (now (ledger .exit)) ⌝ }
@@ -107,7 +107,7 @@ pub fn put_back(ledger: &mut [u32], f: u64)
 
 // Frame f, if it is a table or a page of guest g, drains for it.
 pub fn drain(ledger: &mut [u32], f: u64, g: u64)
-    requires { ⌜ Stock (now ledger) ⌝ }
+    requires { ⌜ Ledger-sound (now ledger) ⌝ }
     requires { ⌜ f < size-of (now ledger) ⌝ }
     ensures { λ _. ⌜ Changed (with-kind-by f (drained g)) (now (ledger .entry)) (now (ledger .exit)) ⌝ }
 {
@@ -122,7 +122,7 @@ pub fn drain(ledger: &mut [u32], f: u64, g: u64)
 
 // Frame f, if it drains for guest g, becomes free.
 pub fn release(ledger: &mut [u32], f: u64, g: u64)
-    requires { ⌜ Stock (now ledger) ⌝ }
+    requires { ⌜ Ledger-sound (now ledger) ⌝ }
     requires { ⌜ f < size-of (now ledger) ⌝ }
     ensures { λ _. ⌜ Changed (with-kind-by f (released g)) (now (ledger .entry)) (now (ledger .exit)) ⌝ }
 {

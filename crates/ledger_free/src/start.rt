@@ -2,14 +2,14 @@
 ghost use mathlib.Core.Path.{_≡_};
 ghost use Prim.Native.Nat.{_+_, _-_, _<_, _≤_};
 ghost use lib.ListN.{length};
-ghost use Rattle.memory.specs.Word.{clearedAt};
+ghost use Rattle.memory.specs.Word.{cleared-at};
 ghost use Rattle.ledger.specs.Layout.{words-for, most-frames};
-ghost use Rattle.ledger_free.specs.Start.{kind-first, Filled, ram-stored, LaidOut};
+ghost use Rattle.ledger_free.specs.Start.{kind-first, Filled, ram-stored, Laid-out};
 use super::place;
 use ledger::cells;
 
 fn clear(ledger: &mut [u32])
-    ensures { λ _. ⌜ now (ledger .exit) ≡ clearedAt (now (ledger .entry)) 0 (length (now (ledger .entry))) ⌝ }
+    ensures { λ _. ⌜ now (ledger .exit) ≡ cleared-at (now (ledger .entry)) 0 (length (now (ledger .entry))) ⌝ }
 {
     let mut i = 0;
     while i < ledger.len() {
@@ -61,7 +61,7 @@ fn store_ram(ledger: &mut [u32], n: u64, first: u64)
 
 pub fn lay_out(ledger: &mut [u32], n: u64, b: u64, k: u64)
     requires { ⌜ (length (now ledger) ≡ words-for n) × (n ≤ most-frames) × (k < n) ⌝ }
-    ensures { λ _. ⌜ LaidOut n b k (now (ledger .exit)) ⌝ }
+    ensures { λ _. ⌜ Laid-out n b k (now (ledger .exit)) ⌝ }
 {
     fill(ledger, n, k);
     store_ram(ledger, n, b / 4096);

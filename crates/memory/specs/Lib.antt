@@ -1,4 +1,2 @@
 -- A word in a slice of bytes, and its laws.
 pub mod Word
-pub mod Bytes
-pub mod Laws

@@ -2,7 +2,7 @@
 ghost use mathlib.Core.Path.{_≡_};
 ghost use Prim.Native.Nat.{_+_, _<_, _≤_, _%_};
 ghost use lib.ListN.{length};
-ghost use Rattle.memory.specs.Word.{wordAt, storedAt, clearedAt};
+ghost use Rattle.memory.specs.Word.{word-at, stored-at, cleared-at};
 
 fn wide(x: u8) -> u64
     ensures { λ r. ⌜ (r ≡ x) × (r < 256) ⌝ }
@@ -13,7 +13,7 @@ fn wide(x: u8) -> u64
 // The word at the start of m. A flat sum with the places as constants: it compiles to one load.
 fn first_word(m: &[u8]) -> u64
     requires { ⌜ 8 ≤ length (now m) ⌝ }
-    ensures { λ r. ⌜ r ≡ wordAt (now (m .entry)) 0 ⌝ }
+    ensures { λ r. ⌜ r ≡ word-at (now (m .entry)) 0 ⌝ }
 {
     wide(m[0])
         + 0x100 * wide(m[1])
@@ -27,7 +27,7 @@ fn first_word(m: &[u8]) -> u64
 
 pub fn word(m: &[u8], at: usize) -> u64
     requires { ⌜ at + 8 ≤ length (now m) ⌝ }
-    ensures { λ r. ⌜ r ≡ wordAt (now (m .entry)) at ⌝ }
+    ensures { λ r. ⌜ r ≡ word-at (now (m .entry)) at ⌝ }
 {
     first_word(&m[at..])
 }
@@ -41,7 +41,7 @@ fn low(x: u64) -> u8
 // Eight byte stores: they compile to one store.
 pub fn store_word(m: &mut [u8], at: usize, v: u64)
     requires { ⌜ at + 8 ≤ length (now m) ⌝ }
-    ensures { λ r. ⌜ now (m .exit) ≡ storedAt (now (m .entry)) at v ⌝ }
+    ensures { λ r. ⌜ now (m .exit) ≡ stored-at (now (m .entry)) at v ⌝ }
 {
     m[at] = low(v);
     m[at + 1] = low(v / 0x100);
@@ -56,7 +56,7 @@ pub fn store_word(m: &mut [u8], at: usize, v: u64)
 // n bytes from `at` on become 0.
 pub fn clear(m: &mut [u8], at: usize, n: usize)
     requires { ⌜ at + n ≤ length (now m) ⌝ }
-    ensures { λ r. ⌜ now (m .exit) ≡ clearedAt (now (m .entry)) at n ⌝ }
+    ensures { λ r. ⌜ now (m .exit) ≡ cleared-at (now (m .entry)) at n ⌝ }
 {
     let mut i = 0;
     while i < n {

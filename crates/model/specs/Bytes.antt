@@ -6,8 +6,8 @@ use mathlib.Core.List.{List}
 use mathlib.Core.Option.{Option, none, some}
 use Prim.Native.Nat.{ℕ, _+_, _*_, _-_, _<_, _/_, _%_}
 use lib.ListN.{length}
-use Rattle.memory.specs.Word.{wordAt}
-use Rattle.walk_descriptor.specs.declared.Kind.the-variants.{Translation, Permission}
+use Rattle.memory.specs.Word.{word-at}
+use Rattle.walk_descriptor.specs.declared.FaultKind.the-variants.{Translation, Permission}
 use Rattle.walk.specs.declared.Answer.{Answer}
 use Rattle.walk.specs.Both.{One, reached, failed, tell-2}
 use Rattle.model.specs.State.{State}
@@ -18,7 +18,7 @@ use Rattle.model.specs.Cache.{Access, reading, writing, executing, grant
 pub record Image (s : State) (b : ℕ) (m : List ℕ) : Type 0 where
   pub base : b ≡ 4096 * s .first
   pub long : length m ≡ 4096 * s .size
-  pub words : (f i : ℕ) → f < s .size → i < 512 → s .word f i ≡ wordAt m (4096 * f + 8 * i)
+  pub words : (f i : ℕ) → f < s .size → i < 512 → s .word f i ≡ word-at m (4096 * f + 8 * i)
 
 -- "the kind of access (read, write, execute)", as document 01's walk numbers it
 abbrev pub access : Access → ℕ

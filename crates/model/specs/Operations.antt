@@ -5,7 +5,7 @@ use mathlib.Core.Bool.{Bool, true, false, not, _&&_, _||_, cond}
 use Prim.Native.Nat.{ℕ, _+_, _*_, _/_, _%_}
 use lib.Dec.{eqb, ltb, leb}
 use Rattle.model.specs.Base.{upd, upd2, all}
-use Rattle.model.specs.State.{State, Kind, monitor, free, page, draining-page, is-guest, is-free, is-page, is-page-of, total, free-frames}
+use Rattle.model.specs.State.{State, Frame-kind, monitor, free, page, draining-page, is-guest, is-free, is-page, is-page-of, total, free-frames}
 use Rattle.model.specs.Translate.{mapped, missing}
 use Rattle.model.specs.Changes.{zeros, becomes, with-root, with-mapping, without-mapping, without-guest, clean}
 
@@ -127,7 +127,7 @@ invalidated s g =
     done (clean s g))
 
 -- set-up: "the first k frames, 0 <= k < n" are the monitor's
-unfoldable pub at-first : (n k f : ℕ) → Kind
+unfoldable pub at-first : (n k f : ℕ) → Frame-kind
 at-first n k f = cond (ltb f k || leb n f) monitor free
 
 unfoldable pub started : (n b k : ℕ) (word : ℕ → ℕ → ℕ) → State

@@ -14,16 +14,16 @@ abbrev pub is-guest : ℕ → Bool
 is-guest g = ltb 0 g && leb g guests
 
 -- A guest-physical address has 48 bits, so a guest has 2^36 pages, and so has physical memory.
-abbrev pub pages : ℕ
-pages = 68719476736
+abbrev pub page-count : ℕ
+page-count = 68719476736
 
 -- What a frame is. The height of a table is 3 at the root and 0 where the pages are (level 3 - height).
 -- Its range p: it serves the pages v of the guest with v / 512^(height + 1) = p.
 -- A frame that drains was a table or a page of the guest; its words are still what they were.
-pub data Kind : Type 0 where
-  monitor free : Kind
-  table draining-table : (guest height range : ℕ) → Kind
-  page draining-page : (guest : ℕ) → Kind
+pub data Frame-kind : Type 0 where
+  monitor free : Frame-kind
+  table draining-table : (guest height range : ℕ) → Frame-kind
+  page draining-page : (guest : ℕ) → Frame-kind
 
 pub record State : Type 0 where
   -- n, the number of frames
@@ -31,7 +31,7 @@ pub record State : Type 0 where
   -- the number of RAM's first frame in physical memory: b / 4096
   pub first : ℕ
   -- of a frame
-  pub kind : ℕ → Kind
+  pub kind : ℕ → Frame-kind
   -- frame, guest: 0 not shared, 1 for reading, 2 for writing too
   pub shared : ℕ → ℕ → ℕ
   -- frame, guest: the number of places where the guest's tables lead to it
@@ -74,8 +74,17 @@ put-byte (suc k) w x = put-byte k (w / 256) x * 256 + w % 256
 unfoldable pub byte : State → ℕ → ℕ → ℕ
 byte s f o = byte-of (o % 8) (s .word f (o / 8))
 
+-- the number of what a frame is, as the ledger stores it
+abbrev pub sort : Frame-kind → ℕ
+sort monitor = 0
+sort free = 1
+sort (table g h p) = 2
+sort (draining-table g h p) = 3
+sort (page g) = 4
+sort (draining-page g) = 5
+
 -- tests of what a frame is
-abbrev pub is-free : Kind → Bool
+abbrev pub is-free : Frame-kind → Bool
 is-free monitor = false
 is-free free = true
 is-free (table h n p) = false
@@ -83,7 +92,7 @@ is-free (draining-table h n p) = false
 is-free (page h) = false
 is-free (draining-page h) = false
 
-abbrev pub is-page : Kind → Bool
+abbrev pub is-page : Frame-kind → Bool
 is-page monitor = false
 is-page free = false
 is-page (table h n p) = false
@@ -91,7 +100,7 @@ is-page (draining-table h n p) = false
 is-page (page h) = true
 is-page (draining-page h) = false
 
-abbrev pub is-page-of : Kind → ℕ → Bool
+abbrev pub is-page-of : Frame-kind → ℕ → Bool
 is-page-of monitor g = false
 is-page-of free g = false
 is-page-of (table h n p) g = false
@@ -100,7 +109,7 @@ is-page-of (page h) g = eqb h g
 is-page-of (draining-page h) g = false
 
 -- it holds a table, in use or draining
-abbrev pub tabled : Kind → Bool
+abbrev pub tabled : Frame-kind → Bool
 tabled monitor = false
 tabled free = false
 tabled (table h n p) = true

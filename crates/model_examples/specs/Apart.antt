@@ -13,8 +13,8 @@ use Rattle.model.specs.Changes.{zeros, becomes, with-root, with-table, grow, wi
 use Rattle.model.specs.Operations.{done, check, shares, may-map, create, give, map, at-first, started, set-up}
 use Rattle.model.specs.Cache.{nothing-kept}
 use Rattle.model.specs.Machine.{Machine, Create, Give, Map, answer, keeps, settle, call, SetUp}
-use Rattle.model_noninterference.specs.Theorems.ApartTerms.{Frames, after, creates, gives, maps, Apart, second-calls, both-call, Runs-apart, stop, then, no-frames, Reads}
-use Rattle.model_noninterference.specs.Theorems.TwoRunsApart.{same-reads}
+use Rattle.model_noninterference.specs.ApartTerms.{Frames, after, creates, gives, maps, Apart, second-calls, both-call, Runs-apart, stop, then, no-frames, Reads}
+use Rattle.model_theorems.specs.TwoRunsApart.{same-reads}
 use Rattle.model_examples.specs.Lowest.{frees, free-at, lowest, lowest-chosen}
 
 unfoldable pub begins : (k w : ℕ) → Machine

@@ -6,25 +6,26 @@ use Prim.Native.Nat.{ℕ, zero, suc, _+_, _<_}
 use native.Mathlib.Omega.{arith}
 use lib.Dec.{eqb}
 use borrow.Author.Tests.{eq-eqb, ne-eqb}
-use Rattle.model.specs.Base.{eq?, bool?, sum}
-use Rattle.model.specs.State.{State, Kind, free, is-free, free-frames}
+use Rattle.model.proofs.Laws.Base.{eq?, bool?}
+use Rattle.model.specs.Base.{sum}
+use Rattle.model.specs.State.{State, Frame-kind, free, is-free, free-frames}
 use Rattle.model.specs.Changes.{Choice}
-use Rattle.model.specs.Invariant.Kinds.{free-is}
-use Rattle.model.specs.Invariant.Choice.{one-if-free}
+use Rattle.model.proofs.Invariant.Kinds.{free-is}
+use Rattle.model.proofs.Invariant.Choice.{one-if-free}
 
-unfoldable pub frees : ℕ → (ℕ → Kind) → ℕ
+unfoldable pub frees : ℕ → (ℕ → Frame-kind) → ℕ
 frees n kind = sum n (λ f. one-if-free (kind f))
 
 -- the free frame below n that has i free ones below it
-unfoldable pub free-at : ℕ → (ℕ → Kind) → ℕ → ℕ
+unfoldable pub free-at : ℕ → (ℕ → Frame-kind) → ℕ → ℕ
 free-at zero kind i = 0
 free-at (suc n) kind i = cond (is-free (kind n) && eqb i (frees n kind)) n (free-at n kind i)
 
-pub record Place (kind : ℕ → Kind) (i f : ℕ) : Type 0 where
+pub record Place (kind : ℕ → Frame-kind) (i f : ℕ) : Type 0 where
   pub is : kind f ≡ free
   pub below : frees f kind ≡ i
 
-placed : (n : ℕ) (kind : ℕ → Kind) (i : ℕ) → i < frees n kind → Place kind i (free-at n kind i)
+placed : (n : ℕ) (kind : ℕ → Frame-kind) (i : ℕ) → i < frees n kind → Place kind i (free-at n kind i)
 unfolding free-at frees sum
 placed zero kind i l = absurd (omega arith)
 placed (suc n) kind i l = elim (bool? (is-free (kind n))) [

@@ -5,13 +5,13 @@ use mathlib.Core.List.{List, [], _∷_}
 use mathlib.Core.Option.{none, some}
 use Prim.Native.Nat.{ℕ, _+_, _*_, _<_}
 use native.Mathlib.Omega.{arith}
-use Rattle.model.specs.State.{State, page, draining-page, pages}
+use Rattle.model.specs.State.{State, page, draining-page, page-count}
 use Rattle.model.specs.Translate.{translate}
 use Rattle.model.specs.Operations.{Out, refuse, done, check, set-up}
 use Rattle.model.specs.Cache.{Caches, nothing-kept, grown, Access, reading, writing, grants, Reach, kept}
 use Rattle.model.specs.Machine.{Machine, answer, keeps, settle, call, calls, Run, stop, then, SetUp, Reaches}
-use Rattle.model.specs.Invariant.Holds.{holds}
-use Rattle.model.specs.Invariant.Reaching.{reported, call-keeps, found, reaches-mapped}
+use Rattle.model.proofs.Invariant.Holds.{holds}
+use Rattle.model.proofs.Invariant.Reaching.{reported, call-keeps, found, reaches-mapped}
 use Rattle.model_examples.specs.Runs.{Ask, creates, operation, chosen, after, state-after, begin, sharing, draining, reuse, after-11, after-19, after-32, shared-then, drains-then, handed-on, first-page}
 
 unfoldable pub machine-after : Machine → List Ask → Machine
@@ -105,14 +105,14 @@ looked m a [] = unfold call in go (answer (m .state) (operation (m .state) a))
 looked m a (b ∷ rest) = looked (call m (operation (m .state) a)) b rest
 
 -- a guest whose tables lead to frame 8 reaches its first byte
-pub reaches-8 : {m : Machine} → Run machine-0 m → (s : State) → m .state ≡ s → s .first ≡ 0x40000 → (g v r : ℕ) (w : Access) → v < pages → translate s g v ≡ some (8, r) → grants r w ≡ true → Reaches m g w 0x40008000
+pub reaches-8 : {m : Machine} → Run machine-0 m → (s : State) → m .state ≡ s → s .first ≡ 0x40000 → (g v r : ℕ) (w : Access) → v < page-count → translate s g v ≡ some (8, r) → grants r w ≡ true → Reaches m g w 0x40008000
 reaches-8 {m} run s is first g v r w l e a = subst (λ (x : ℕ). Reaches m g w ((x + 8) * 4096 + 0)) (ap (λ (s : State). s .first) is ∙ first) (reaches-mapped m (holds set-up-0 run .core) g v 8 r w 0 l (rw is e) a (omega arith))
 
 -- guest 1 writes and guest 2 reads frame 8
 first-11 : machine-11 .state .first ≡ 0x40000
 first-11 = ap (λ (s : State). s .first) state-11 ∙ first-page
 
-at-11 : (g v r : ℕ) (w : Access) → v < pages → translate after-11 g v ≡ some (8, r) → grants r w ≡ true → Reaches machine-11 g w 0x40008000
+at-11 : (g v r : ℕ) (w : Access) → v < page-count → translate after-11 g v ≡ some (8, r) → grants r w ≡ true → Reaches machine-11 g w 0x40008000
 at-11 = reaches-8 run-11 after-11 state-11 first-page
 
 pub owner-writes : (machine-11 .state .kind 8 ≡ page 1) × Reaches machine-11 1 writing 0x40008000

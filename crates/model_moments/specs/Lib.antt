@@ -1,4 +1,2 @@
--- The stores of an operation one by one, and what holds after each.
+-- The stores of an operation one by one; the theorems on what holds after each stand in crate model_theorems.
 pub mod Moments
-pub mod Invariant
-pub mod Theorems

@@ -13,7 +13,7 @@ use Rattle.model.specs.Changes.{with-table, grow}
 use Rattle.model.specs.Operations.{Out, refuse, done}
 use Rattle.model.specs.Cache.{Caches, grown, Access, writing, Reach}
 use Rattle.model.specs.Machine.{Machine, Operation, Create, Give, Take, Map, Unmap, Share, Unshare, Destroy, Invalidated, answer, Chooses, keeps, write, Reaches}
-use Rattle.model.specs.Theorems.Terms.{Allowed}
+use Rattle.model.specs.Terms.{Allowed}
 
 -- word `index` of frame `frame` becomes `value`
 pub record Store : Type 0 where
@@ -82,11 +82,11 @@ unfoldable pub settle-finely : Machine → Operation → Out → Machine
 settle-finely m o (refuse n) = record { state = m .state; caches = grown (m .state) (m .caches) }
 settle-finely m o (done s) = record { state = s; caches = grown s (keeps (during (m .state) (m .caches) (m .state .word) (stores-of (m .state) o)) o) }
 
-pub data FineStep : Machine → Machine → Type 1 where
-  calls-finely : {m : Machine} (o : Operation) → Chooses (m .state) o → FineStep m (settle-finely m o (answer (m .state) o))
+pub data Fine-step : Machine → Machine → Type 1 where
+  calls-finely : {m : Machine} (o : Operation) → Chooses (m .state) o → Fine-step m (settle-finely m o (answer (m .state) o))
   stores-byte : {m : Machine} (g f o x : ℕ) → m .state .exists g ≡ true → f < m .state .size → o < 4096 → x < 256 →
-      Reaches m g writing ((m .state .first + f) * 4096 + o) → FineStep m (write m f o x)
+      Reaches m g writing ((m .state .first + f) * 4096 + o) → Fine-step m (write m f o x)
 
-pub data FineRun : Machine → Machine → Type 1 where
-  fine-stop : {m : Machine} → FineRun m m
-  fine-then : {m m′ z : Machine} → FineStep m m′ → FineRun m′ z → FineRun m z
+pub data Fine-run : Machine → Machine → Type 1 where
+  fine-stop : {m : Machine} → Fine-run m m
+  fine-then : {m m′ z : Machine} → Fine-step m m′ → Fine-run m′ z → Fine-run m z

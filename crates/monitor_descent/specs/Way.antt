@@ -1,20 +1,11 @@
 -- The way of a page number through a guest's tables, as the code goes it: what is known where it stands, and where it ends.
-use mathlib.Core.Path.{_≡_, refl, sym, ap, subst, _∙_}
-use mathlib.Core.Bool.{true, false}
-use mathlib.Core.Logic.{_⊎_, inl, inr}
-use mathlib.Core.Option.{Option, none, some}
-use mathlib.Core.List.{List}
-use Prim.Native.Nat.{ℕ, zero, suc, _-_, _<_, _≤_, _/_, _%_, _^_}
-use native.Mathlib.Omega.{arith}
-use Rattle.model.specs.State.{State, table, pages}
-use Rattle.model.specs.Translate.{upper, index, entry-at, descend, missing-from, missing, Page, leaf, translate, is-some, mapped}
+use mathlib.Core.Path.{_≡_}
+use mathlib.Core.Logic.{_⊎_}
+use Prim.Native.Nat.{ℕ, _-_, _≤_}
+use Rattle.model.specs.State.{State}
+use Rattle.model.specs.Translate.{index, descend, missing-from, missing}
 use Rattle.model.specs.Changes.{grow}
-use Rattle.model.specs.WalkLaws.{At, at-root, descend-down, descend-stop, descend-last, missing-down, missing-stop, grow-down, Leads, leads, reads-empty}
-use Rattle.model.specs.Invariant.Core.{Core, low}
-use Rattle.model.specs.Invariant.Way.{leaf-there, translate-empty}
-use Rattle.ledger.specs.Layout.{size-of, first-of, exists-of, root-of, word-of, state-in, state-of}
-use Rattle.ledger.specs.Words.{Within}
-use Rattle.ledger.specs.Sound.{Sound, within}
+use Rattle.model.specs.Translate.{At}
 
 -- from the root to table t of height h
 pub record Reached (s : State) (g v h t : ℕ) : Type 0 where
@@ -28,85 +19,3 @@ pub record Reached (s : State) (g v h t : ℕ) : Type 0 where
 pub record Ended (s : State) (g v h t : ℕ) : Type 0 where
   pub reached : Reached s g v h t
   pub stops : (h ≡ 0) ⊎ (s .word t (index h v) ≡ 0)
-
-module _ (s : State) (c : Core s) (g v : ℕ) where
-  pub reached-root : s .exists g ≡ true → v < pages → Reached s g v 3 (s .root g)
-  reached-root e l = record { high = omega arith; serves = at-root s c g v e l; way = refl; lacks = refl; grows = λ pick. refl }
-
-  step-down : (h t : ℕ) → Reached s g v (suc h) t → (y : Leads s g h (upper (suc h) v) (s .word t (index (suc h) v)) (entry-at s t (index (suc h) v))) → Reached s g v h (y .to)
-  step-down h t a y = record {
-    high = let k = a .high in omega arith;
-    serves = y .serves;
-    way = a .way ∙ descend-down s h t v (y .to) (y .reads);
-    lacks = a .lacks ∙ missing-down s h t v (y .to) (y .reads);
-    grows = λ pick. a .grows pick ∙ grow-down s h t v g pick (y .to) (y .reads);
-  }
-
-  pub reached-down : (h t x : ℕ) → Reached s g v h t → 0 < h → x ≡ s .word t (index h v) → (x ≡ 0 → ⊥) → (s .first ≤ x / 4096) × Reached s g v (h - 1) (x / 4096 - s .first)
-  reached-down zero t x a l e ne = absurd (omega arith)
-  reached-down (suc h) t x a l e ne =
-      let y = leads s c g t h v (a .serves) (λ z. ne (e ∙ z)) in
-      let n = y .number in
-      let d : y .to ≡ x / 4096 - s .first = omega arith in
-      let k : h ≡ suc h - 1 = omega arith in
-      (omega arith, subst (λ (z : ℕ). Reached s g v z (x / 4096 - s .first)) k (subst (λ (z : ℕ). Reached s g v h z) d (step-down h t a y)))
-
-  pub reached-low : (h t : ℕ) → Reached s g v h t → t < s .size
-  reached-low h t a = low s c t (table g h (upper (suc h) v)) (a .serves) refl
-
-  -- where it ends
-  pub ended-last : (h t : ℕ) → Reached s g v h t → h ≤ 0 → Ended s g v h t
-  ended-last h t a l = record { reached = a; stops = inl (omega arith) }
-
-  pub ended-short : (h t x : ℕ) → Reached s g v h t → x ≡ s .word t (index h v) → x ≡ 0 → Ended s g v h t
-  ended-short h t x a e z = record { reached = a; stops = inr (sym e ∙ z) }
-
-  no-leaf : leaf s g v ≡ none → mapped s g v ≡ false
-  unfolding translate
-  no-leaf e = rw e
-
-  pub ended-above : (h t : ℕ) → s .exists g ≡ true → Ended s g v h t → (h ≡ 0 → ⊥) → mapped s g v ≡ false
-  ended-above zero t e a ne = absurd (ne refl)
-  ended-above (suc h) t e a ne = no-leaf (leaf-there s c g v e ∙ a .reached .way ∙ elim (a .stops) [
-    | inl z ↦ absurd (ne z)
-    | inr z ↦ descend-stop s h t v (reads-empty s t (index (suc h) v) z)
-  ])
-
-  pub ended-missing : (h t : ℕ) → Ended s g v h t → missing s g v ≡ h
-  ended-missing zero t a = a .reached .lacks ∙ last t
-    where
-      last : (t : ℕ) → missing-from s 0 t v ≡ 0
-      last t = unfold missing-from in refl
-  ended-missing (suc h) t a = a .reached .lacks ∙ elim (a .stops) [
-    | inl z ↦ absurd (omega arith)
-    | inr z ↦ missing-stop s h t v (reads-empty s t (index (suc h) v) z)
-  ]
-
-  module _ (t : ℕ) (e : s .exists g ≡ true) (h : ℕ) (a : Ended s g v h t) (z : h ≡ 0) where
-    pub last-serves : At s g 0 v t
-    last-serves = subst (λ (x : ℕ). At s g x v t) z (a .reached .serves)
-
-    pub last-leaf : leaf s g v ≡ some t
-    last-leaf = leaf-there s c g v e ∙ a .reached .way ∙ ap (λ (x : ℕ). descend s x t v) z ∙ descend-last s t v
-
-    pub last-empty : (x : ℕ) → x ≡ s .word t (v % 512) → x ≡ 0 → mapped s g v ≡ false
-    last-empty x q y = ap (λ (o : Option Page). is-some o) (translate-empty s g v t last-leaf (reads-empty s t (v % 512) (sym q ∙ y)))
-
--- the same, of the two slices
-module _ {m l : List ℕ} (ok : Sound m l) where
-  pub way-root : (g v t : ℕ) → t ≡ root-of l g → exists-of l g ≡ true → v < pages → Reached (state-of m l) g v 3 t
-  way-root g v t e q k = subst (λ (x : ℕ). Reached (state-of m l) g v 3 x) (sym e) (unfold state-in in reached-root (state-of m l) (ok .core) g v q k)
-
-  module _ {g v h t : ℕ} (a : Reached (state-of m l) g v h t) where
-    pub way-low : t < size-of l
-    way-low = let k : t < state-of m l .size = reached-low (state-of m l) (ok .core) g v h t a in unfold state-in in k
-
-    pub way-words : (t < 2 ^ 36) × Within m t
-    way-words = let k = way-low in let few = ok .stock .few in (omega arith, within m l ok t k)
-
-    pub way-down : (first x : ℕ) → first ≡ first-of l → 0 < h → x ≡ word-of m t (index h v) → (x ≡ 0 → ⊥) → (first ≤ x / 4096) × Reached (state-of m l) g v (h - 1) (x / 4096 - first)
-    way-down first x e p q ne = rw e (unfold state-in in reached-down (state-of m l) (ok .core) g v h t x a p q ne)
-
-    pub way-short : (x : ℕ) → x ≡ word-of m t (index h v) → x ≡ 0 → Ended (state-of m l) g v h t
-    unfolding state-in
-    way-short x e z = ended-short (state-of m l) (ok .core) g v h t x a e z

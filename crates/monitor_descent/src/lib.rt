@@ -2,7 +2,7 @@
 ghost use mathlib.Core.Path.{_≡_};
 ghost use mathlib.Core.Bool.{true};
 ghost use Prim.Native.Nat.{_<_, _≤_};
-ghost use Rattle.model.specs.State.{pages};
+ghost use Rattle.model.specs.State.{page-count};
 ghost use Rattle.model.specs.Translate.{upper as upper·of};
 ghost use Rattle.model.specs.Operations.{page-address};
 ghost use Rattle.ledger.specs.Layout.{exists-of, state-of};
@@ -52,7 +52,7 @@ pub fn upper(h: u64, v: u64) -> u64
 
 pub fn descend(ram: &[u8], ledger: &[u32], g: u64, v: u64) -> Place
     requires { ⌜ Sound (now ram) (now ledger) ⌝ }
-    requires { ⌜ (exists-of (now ledger) g ≡ true) × (v < pages) ⌝ }
+    requires { ⌜ (exists-of (now ledger) g ≡ true) × (v < page-count) ⌝ }
     ensures { λ r. ⌜ Ended (state-of (now (ram .entry)) (now (ledger .entry))) g v (r .height) (r .table) ⌝ }
 {
     let first = header::first(ledger);

@@ -7,10 +7,10 @@ ghost use Rattle.model.specs.State.{is-guest};
 ghost use Rattle.model.specs.Changes.{drained};
 ghost use Rattle.model.specs.Operations.{refusal, unshared as unshared·of, destroy as destroy·of};
 ghost use Rattle.ledger.specs.Layout.{size-of, state-of};
-ghost use Rattle.ledger.specs.Stock.{Stock, Changed};
+ghost use Rattle.ledger.specs.LedgerSound.{Ledger-sound, Changed};
 ghost use Rattle.ledger.specs.Sound.{Sound};
 ghost use Rattle.monitor_contract.specs.Answers.{Answers, Done};
-ghost use Rattle.monitor_contract.specs.Upto.{upto, without};
+ghost use Rattle.monitor_contract.specs.EachFrame.{turned-below, without};
 ghost use Rattle.monitor_destroy.specs.Destroy.{destroying};
 use ledger::frame;
 use ledger::guest;
@@ -65,9 +65,9 @@ fn check_destroy(ram: &[u8], ledger: &[u32], g: u64) -> u64
 }
 
 fn drain_all(ledger: &mut [u32], g: u64)
-    requires { ⌜ Stock (now ledger) ⌝ }
+    requires { ⌜ Ledger-sound (now ledger) ⌝ }
     requires { ⌜ is-guest g ≡ true ⌝ }
-    ensures { λ _. ⌜ Changed (upto (drained g) (without g) (size-of (now (ledger .entry)))) (now (ledger .entry)) (now (ledger .exit)) ⌝ }
+    ensures { λ _. ⌜ Changed (turned-below (drained g) (without g) (size-of (now (ledger .entry)))) (now (ledger .entry)) (now (ledger .exit)) ⌝ }
 {
     let n = header::size(ledger);
     let mut f: u64 = 0;

@@ -3,10 +3,10 @@ ghost use mathlib.Core.Path.{_≡_};
 ghost use Rattle.model.specs.Changes.{released};
 ghost use Rattle.model.specs.Operations.{refusal, invalidated as invalidated·of};
 ghost use Rattle.ledger.specs.Layout.{size-of, state-of};
-ghost use Rattle.ledger.specs.Stock.{Stock, Changed};
+ghost use Rattle.ledger.specs.LedgerSound.{Ledger-sound, Changed};
 ghost use Rattle.ledger.specs.Sound.{Sound};
 ghost use Rattle.monitor_contract.specs.Answers.{Answers, Done};
-ghost use Rattle.monitor_contract.specs.Upto.{upto, same};
+ghost use Rattle.monitor_contract.specs.EachFrame.{turned-below, same};
 ghost use Rattle.monitor_invalidated.specs.Invalidated.{invalidating};
 use ledger::guest;
 use ledger::header;
@@ -25,8 +25,8 @@ fn check_invalidated(ram: &[u8], ledger: &[u32], g: u64) -> u64
 }
 
 fn release_all(ledger: &mut [u32], g: u64)
-    requires { ⌜ Stock (now ledger) ⌝ }
-    ensures { λ _. ⌜ Changed (upto (released g) same (size-of (now (ledger .entry)))) (now (ledger .entry)) (now (ledger .exit)) ⌝ }
+    requires { ⌜ Ledger-sound (now ledger) ⌝ }
+    ensures { λ _. ⌜ Changed (turned-below (released g) same (size-of (now (ledger .entry)))) (now (ledger .entry)) (now (ledger .exit)) ⌝ }
 {
     let n = header::size(ledger);
     let mut f: u64 = 0;

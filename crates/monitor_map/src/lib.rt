@@ -8,12 +8,12 @@ ghost use Rattle.model.specs.Translate.{mapped};
 ghost use Rattle.model.specs.Operations.{done, refusal, is-rights, shares as shares·of};
 ghost use Rattle.model.specs.Machine.{Map};
 ghost use Rattle.ledger.specs.Layout.{size-of, exists-of, pick-of, state-of};
-ghost use Rattle.ledger.specs.Stock.{Stock};
+ghost use Rattle.ledger.specs.LedgerSound.{Ledger-sound};
 ghost use Rattle.ledger.specs.Sound.{Sound};
 ghost use Rattle.monitor_contract.specs.Answers.{Answers, Done};
 ghost use Rattle.monitor_contract.specs.Found.{Translates, Finds};
 ghost use Rattle.monitor_descent.specs.Way.{Ended};
-ghost use Rattle.monitor_map.specs.Map.{mapping as mapping·of, asked, allows, Ready, MapPlan};
+ghost use Rattle.monitor_map.specs.Map.{mapping as mapping·of, asked, allows, Ready, Map-plan};
 use ledger::frame;
 use ledger::guest;
 use ledger::header;
@@ -52,7 +52,7 @@ fn shares(how: u64, r: u64) -> bool
 }
 
 fn may_map(ledger: &[u32], f: u64, g: u64, r: u64) -> bool
-    requires { ⌜ Stock (now ledger) ⌝ }
+    requires { ⌜ Ledger-sound (now ledger) ⌝ }
     requires { ⌜ f < size-of (now ledger) ⌝ }
     requires { ⌜ is-guest g ≡ true ⌝ }
     ensures { λ b. ⌜ b ≡ allows (now (ledger .entry)) f g r ⌝ }
@@ -112,7 +112,7 @@ fn is_mapped(ram: &[u8], ledger: &[u32], g: u64, v: u64, t: u64, h: u64) -> bool
 
 fn plan_map(ram: &[u8], ledger: &[u32], f: u64, g: u64, a: u64, r: u64) -> Plan
     requires { ⌜ Sound (now ram) (now ledger) ⌝ }
-    ensures { λ p. ⌜ MapPlan (state-of (now (ram .entry)) (now (ledger .entry))) f g a r (pick-of (now (ledger .entry))) p ⌝ }
+    ensures { λ p. ⌜ Map-plan (state-of (now (ram .entry)) (now (ledger .entry))) f g a r (pick-of (now (ledger .entry))) p ⌝ }
 {
     let refused = check_map(ram, ledger, f, g, a, r);
     if refused != 0 {

@@ -5,7 +5,7 @@ ghost use Prim.Native.Nat.{_<_};
 ghost use Rattle.model.specs.Operations.{refusal, share as share·of, unshare as unshare·of};
 ghost use Rattle.model.specs.State.{is-guest};
 ghost use Rattle.ledger.specs.Layout.{size-of, count-of, dirty-of, state-of};
-ghost use Rattle.ledger.specs.Stock.{Stock};
+ghost use Rattle.ledger.specs.LedgerSound.{Ledger-sound};
 ghost use Rattle.ledger.specs.Sound.{Sound};
 ghost use Rattle.monitor_contract.specs.Answers.{Answers};
 ghost use Rattle.monitor_share.specs.Share.{sharing, unsharing, held-back, extent};
@@ -15,7 +15,7 @@ use ledger::header;
 
 // 13 while h has f mapped anywhere, 14 while h is dirty: what keeps a right from being taken away.
 fn held(ledger: &[u32], f: u64, h: u64) -> u64
-    requires { ⌜ Stock (now ledger) ⌝ }
+    requires { ⌜ Ledger-sound (now ledger) ⌝ }
     requires { ⌜ f < size-of (now ledger) ⌝ }
     requires { ⌜ is-guest h ≡ true ⌝ }
     ensures { λ r. ⌜ r ≡ held-back (count-of (now (ledger .entry)) f h) (dirty-of (now (ledger .entry)) h) ⌝ }

@@ -5,7 +5,7 @@ ghost use Rattle.model.specs.Base.{upd, upd2};
 ghost use Rattle.model.specs.Changes.{zeros};
 ghost use Rattle.model.specs.Entry.{table-entry, page-entry};
 ghost use Rattle.ledger.specs.Layout.{first-of, word-of};
-ghost use Rattle.ledger.specs.Stock.{Stock};
+ghost use Rattle.ledger.specs.LedgerSound.{Ledger-sound};
 ghost use Rattle.ledger.specs.Words.{Within};
 ghost use Rattle.monitor_tables.specs.NewTable.{Placed, Blank, Growing, Made};
 use ledger::header;
@@ -15,7 +15,7 @@ use ledger::words;
 fn link(ram: &mut [u8], ledger: &[u32], t: u64, i: u64, u: u64)
     requires { ⌜ Placed (now ledger) t i u ⌝ }
     requires { ⌜ Blank (now ram) u ⌝ }
-    requires { ⌜ Stock (now ledger) ⌝ }
+    requires { ⌜ Ledger-sound (now ledger) ⌝ }
     requires { ⌜ (t < 2 ^ 36) × Within (now ram) t ⌝ }
     requires { ⌜ first-of (now ledger) + u < 2 ^ 36 ⌝ }
     ensures { λ _. ⌜ word-of (now (ram .exit)) ≡ upd2 (word-of (now (ram .entry))) t i (table-entry (first-of (now (ledger .entry))) u) ⌝ }
@@ -27,7 +27,7 @@ fn link(ram: &mut [u8], ledger: &[u32], t: u64, i: u64, u: u64)
 // Table u, which the ledger has already, is filled with zeros and then linked in.
 fn clear_and_link(ram: &mut [u8], ledger: &[u32], t: u64, i: u64, u: u64)
     requires { ⌜ Placed (now ledger) t i u ⌝ }
-    requires { ⌜ Stock (now ledger) ⌝ }
+    requires { ⌜ Ledger-sound (now ledger) ⌝ }
     requires { ⌜ (t < 2 ^ 36) × Within (now ram) t ⌝ }
     requires { ⌜ (u < 2 ^ 36) × Within (now ram) u ⌝ }
     requires { ⌜ first-of (now ledger) + u < 2 ^ 36 ⌝ }

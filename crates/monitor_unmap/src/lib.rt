@@ -6,7 +6,7 @@ ghost use Rattle.ledger.specs.Layout.{state-of};
 ghost use Rattle.ledger.specs.Sound.{Sound};
 ghost use Rattle.monitor_contract.specs.Answers.{Answers, Done};
 ghost use Rattle.monitor_contract.specs.Found.{Translates, Finds};
-ghost use Rattle.monitor_unmap.specs.Unmap.{unmapping, Slotted, UnmapPlan};
+ghost use Rattle.monitor_unmap.specs.Unmap.{unmapping, Slotted, Unmap-plan};
 use ledger::frame;
 use ledger::guest;
 use ledger::header;
@@ -15,7 +15,7 @@ use monitor_descent::Plan;
 
 fn plan_unmap(ram: &[u8], ledger: &[u32], a: u64, g: u64) -> Plan
     requires { ⌜ Sound (now ram) (now ledger) ⌝ }
-    ensures { λ r. ⌜ UnmapPlan (state-of (now (ram .entry)) (now (ledger .entry))) a g r ⌝ }
+    ensures { λ r. ⌜ Unmap-plan (state-of (now (ram .entry)) (now (ledger .entry))) a g r ⌝ }
 {
     if !guest::exists(ledger, g) {
         return Plan::Stop(5);

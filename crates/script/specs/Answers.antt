@@ -7,10 +7,10 @@ use Rattle.script_language.specs.declared.Read.{Read}
 use Rattle.script_language.specs.declared.Read.the-variants.{Nothing, Asked, Unread}
 use Rattle.script_machine.specs.declared.Machine.{Machine}
 use Rattle.script_machine.specs.declared.Reply.{Reply}
-use Rattle.script_machine.specs.Machine.{Kept, Executed, outcome, ramOf, ledgerOf}
+use Rattle.script_machine.specs.Machine.{Kept, Executed, outcome, ram-of, ledger-of}
 use Rattle.ledger.specs.Layout.{state-of}
 use Rattle.script.specs.declared.Answered.{Answered}
-use Rattle.script.specs.Line.{replyText, mistakeText}
+use Rattle.script.specs.Line.{reply-text, mistake-text}
 
 -- an output of so many bytes has room for what any line prints, where so many bytes are lent as RAM
 abbrev pub Room : (ram out : ℕ) → Type 0
@@ -20,8 +20,8 @@ Room ram out = ram / 16 + 256 ≤ out
 abbrev pub Did : Read → Machine → (ram ledger ram′ ledger′ : List ℕ) → Machine → (text : List ℕ) → Type 0
 Did Nothing m ram l ram′ l′ m′ text = (m′ ≡ m) × (ram′ ≡ ram) × (l′ ≡ l) × (text ≡ [])
 Did (Asked c) m ram l ram′ l′ m′ text =
-    (x : Reply) × Executed c m ram l ram′ l′ (outcome m′ x) × (text ≡ replyText (state-of (ramOf m′ ram′) (ledgerOf m′ l′)) x)
-Did (Unread why) m ram l ram′ l′ m′ text = (m′ ≡ m) × (ram′ ≡ ram) × (l′ ≡ l) × (text ≡ mistakeText why)
+    (x : Reply) × Executed c m ram l ram′ l′ (outcome m′ x) × (text ≡ reply-text (state-of (ram-of m′ ram′) (ledger-of m′ l′)) x)
+Did (Unread why) m ram l ram′ l′ m′ text = (m′ ≡ m) × (ram′ ≡ ram) × (l′ ≡ l) × (text ≡ mistake-text why)
 
 -- the line x was answered: `out` begins with what it prints
 pub record Answers (x : Read) (m : Machine) (ram ledger ram′ ledger′ out : List ℕ) (r : Answered) : Type 0 where

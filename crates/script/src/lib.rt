@@ -2,7 +2,7 @@
 // It reads and writes nothing outside of the slices that it is lent.
 ghost use Prim.Native.Nat.{_≤_};
 ghost use lib.ListN.{length};
-ghost use Rattle.script_language.specs.Commands.{readOf};
+ghost use Rattle.script_language.specs.Commands.{read-of};
 ghost use Rattle.script_machine.specs.Machine.{Kept};
 ghost use Rattle.script.specs.Answers.{Room, Answers};
 
@@ -48,7 +48,7 @@ pub fn answer_line(
     out: &mut [u8],
 ) -> Answered
     requires { ⌜ (Kept m (now ram) (now ledger)) × (Room (length (now ram)) (length (now out))) ⌝ }
-    ensures { λ r. ⌜ Answers (readOf (now (line .entry))) m (now (ram .entry)) (now (ledger .entry)) (now (ram .exit)) (now (ledger .exit)) (now (out .exit)) r ⌝ }
+    ensures { λ r. ⌜ Answers (read-of (now (line .entry))) m (now (ram .entry)) (now (ledger .entry)) (now (ram .exit)) (now (ledger .exit)) (now (out .exit)) r ⌝ }
 {
     match read_line(line) {
         Read::Nothing => Answered {

@@ -6,9 +6,9 @@ ghost use lib.ListN.{length};
 ghost use Rattle.script_text.specs.Wrote.{Wrote};
 ghost use Rattle.ledger.specs.Layout.{state-of};
 ghost use Rattle.script_machine.specs.Laws.{Tellable};
-ghost use Rattle.script_machine.specs.Machine.{Kept, ramOf, ledgerOf};
+ghost use Rattle.script_machine.specs.Machine.{Kept, ram-of, ledger-of};
 ghost use Rattle.script_print.specs.Answer.{Says};
-ghost use Rattle.script.specs.Line.{reasonText, replyText, mistakeText};
+ghost use Rattle.script.specs.Line.{text-of-reason, reply-text, mistake-text};
 ghost use Rattle.script_machine.specs.declared.Reply.the-variants.{Frame, Ledger};
 ghost use Rattle.script_text.specs.Text.{ascii};
 use script_language::Reason;
@@ -43,7 +43,7 @@ const NOT_TEXT: [u8; 20] = *b"not text            ";
 const LINE_TOO_LONG: [u8; 20] = *b"line too long       ";
 
 fn reason_text(why: Reason) -> Text
-    ensures { λ r. ⌜ Says r (reasonText why) ⌝ }
+    ensures { λ r. ⌜ Says r (text-of-reason why) ⌝ }
 {
     match why {
         Reason::UnknownCommand => Text {
@@ -95,7 +95,7 @@ fn put_end(out: &mut [u8], at: usize) -> usize
 
 fn put_frame_line(out: &mut [u8], m: Machine, ram: &[u8], ledger: &[u32], f: u64) -> usize
     requires { ⌜ (Kept m (now ram) (now ledger)) × (m .ready ≡ true) × (256 ≤ length (now out)) ⌝ }
-    ensures { λ r. ⌜ Wrote 129 (now (out .entry)) 0 (now (out .exit)) r (replyText (state-of (ramOf m (now (ram .entry))) (ledgerOf m (now (ledger .entry)))) (Frame f)) ⌝ }
+    ensures { λ r. ⌜ Wrote 129 (now (out .entry)) 0 (now (out .exit)) r (reply-text (state-of (ram-of m (now (ram .entry))) (ledger-of m (now (ledger .entry)))) (Frame f)) ⌝ }
 {
     let n = (4096 * m.frames) as usize;
     let w = (144 + 16 * m.frames) as usize;
@@ -105,7 +105,7 @@ fn put_frame_line(out: &mut [u8], m: Machine, ram: &[u8], ledger: &[u32], f: u64
 
 fn put_whole_ledger(out: &mut [u8], m: Machine, ram: &[u8], ledger: &[u32]) -> usize
     requires { ⌜ (Kept m (now ram) (now ledger)) × (m .ready ≡ true) × (160 * m .frames ≤ length (now out)) ⌝ }
-    ensures { λ r. ⌜ Wrote (160 * m .frames) (now (out .entry)) 0 (now (out .exit)) r (replyText (state-of (ramOf m (now (ram .entry))) (ledgerOf m (now (ledger .entry)))) Ledger) ⌝ }
+    ensures { λ r. ⌜ Wrote (160 * m .frames) (now (out .entry)) 0 (now (out .exit)) r (reply-text (state-of (ram-of m (now (ram .entry))) (ledger-of m (now (ledger .entry)))) Ledger) ⌝ }
 {
     let n = (4096 * m.frames) as usize;
     let w = (144 + 16 * m.frames) as usize;
@@ -115,7 +115,7 @@ fn put_whole_ledger(out: &mut [u8], m: Machine, ram: &[u8], ledger: &[u32]) -> u
 // A reply's line, with its end; the whole ledger has a line for each frame.
 pub fn put_reply(out: &mut [u8], reply: Reply, m: Machine, ram: &[u8], ledger: &[u32]) -> usize
     requires { ⌜ (Kept m (now ram) (now ledger)) × (Tellable m reply) × (160 * m .frames + 256 ≤ length (now out)) ⌝ }
-    ensures { λ r. ⌜ Wrote (160 * m .frames + 256) (now (out .entry)) 0 (now (out .exit)) r (replyText (state-of (ramOf m (now (ram .entry))) (ledgerOf m (now (ledger .entry)))) reply) ⌝ }
+    ensures { λ r. ⌜ Wrote (160 * m .frames + 256) (now (out .entry)) 0 (now (out .exit)) r (reply-text (state-of (ram-of m (now (ram .entry))) (ledger-of m (now (ledger .entry)))) reply) ⌝ }
 {
     match reply {
         Reply::Done => put(out, 0, b"ok\n"),
@@ -145,7 +145,7 @@ pub fn put_reply(out: &mut [u8], reply: Reply, m: Machine, ram: &[u8], ledger: &
 // Why a line can't be read.
 pub fn put_mistake(out: &mut [u8], why: Reason) -> usize
     requires { ⌜ 256 ≤ length (now out) ⌝ }
-    ensures { λ r. ⌜ Wrote 28 (now (out .entry)) 0 (now (out .exit)) r (mistakeText why) ⌝ }
+    ensures { λ r. ⌜ Wrote 28 (now (out .entry)) 0 (now (out .exit)) r (mistake-text why) ⌝ }
 {
     let at = put(out, 0, b"error: ");
     let end = put_text(out, at, reason_text(why));

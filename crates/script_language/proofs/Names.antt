@@ -14,15 +14,15 @@ use Rattle.script_language.specs.declared.Reason.the-variants.{AccessExp
 use Rattle.script_language.specs.declared.verbs.First.{First}
 use Rattle.script_language.specs.declared.verbs.First.the-variants.{Known}
 use Rattle.script_text.specs.Text.{ascii}
-use Rattle.script_text.specs.Words.{blank, unblank, wordOf, afterWord, sameText, Ended}
-use Rattle.script_language.specs.Verbs.{Entry, deeds, verbs, lookup, wordsOf, placeOf}
-use Rattle.script_language.specs.Commands.{named, argumentOf}
+use Rattle.script_text.specs.Words.{blank, unblank, leading-word, after-word, same-text, Ended}
+use Rattle.script_language.specs.Verbs.{Entry, deeds, verbs, lookup, words-of, place-of}
+use Rattle.script_language.specs.Commands.{named, argument-of}
 
 -- k words of s are passed, up to the place `at`, and none of them is w
 pub record Passed (w s : List ℕ) (n at k : ℕ) : Type 0 where
   pub inside : at ≤ length s
   pub within : k ≤ n
-  pub so-far : placeOf w (wordsOf n s) ≡ k + placeOf w (wordsOf (n - k) (drop at s))
+  pub so-far : place-of w (words-of n s) ≡ k + place-of w (words-of (n - k) (drop at s))
 
 pub passed-none : (w s : List ℕ) (n : ℕ) → Passed w s n 0 0
 passed-none w s n =
@@ -30,16 +30,16 @@ passed-none w s n =
     record { inside = omega arith; within = omega arith; so-far = rw z (omega arith) }
 
 module _ {w s : List ℕ} {n at k from to : ℕ} (p : Passed w s n at k) (h : k < n) (u : drop from s ≡ unblank (drop at s)) (e : Ended s from to) where
-  place-at : placeOf w (wordsOf (n - k) (drop at s)) ≡ cond (sameText w (take (to - from) (drop from s))) 0 (suc (placeOf w (wordsOf (n - suc k) (drop to s))))
-  unfolding wordsOf placeOf
+  place-at : place-of w (words-of (n - k) (drop at s)) ≡ cond (same-text w (take (to - from) (drop from s))) 0 (suc (place-of w (words-of (n - suc k) (drop to s))))
+  unfolding words-of place-of
   place-at =
       let z : n - k ≡ suc (n - suc k) = omega arith in
       rw (z, ← u, e .word, e .after)
 
-  pub found-here : true ≡ sameText w (take (to - from) (drop from s)) → k ≡ placeOf w (wordsOf n s)
+  pub found-here : true ≡ same-text w (take (to - from) (drop from s)) → k ≡ place-of w (words-of n s)
   found-here t = sym (p .so-far ∙ rw (place-at, ← t) (omega arith))
 
-  pub passed-more : false ≡ sameText w (take (to - from) (drop from s)) → Passed w s n to (k + 1)
+  pub passed-more : false ≡ same-text w (take (to - from) (drop from s)) → Passed w s n to (k + 1)
   passed-more t =
       record {
         inside = e .inside;
@@ -47,8 +47,8 @@ module _ {w s : List ℕ} {n at k from to : ℕ} (p : Passed w s n at k) (h : k 
         so-far = p .so-far ∙ rw (place-at, ← t, add-one k) (omega arith);
       }
 
-pub found-none : {w s : List ℕ} {n at k : ℕ} → Passed w s n at k → n ≤ k → n ≡ placeOf w (wordsOf n s)
-unfolding wordsOf placeOf
+pub found-none : {w s : List ℕ} {n at k : ℕ} → Passed w s n at k → n ≤ k → n ≡ place-of w (words-of n s)
+unfolding words-of place-of
 found-none {w} {s} {n} {at} {k} p h =
     let m = p .within in
     let z : n - k ≡ 0 = omega arith in
@@ -56,25 +56,25 @@ found-none {w} {s} {n} {at} {k} p h =
 
 -- a name's number
 
-words-length : (n : ℕ) (s : List ℕ) → length (wordsOf n s) ≡ n
-unfolding wordsOf
+words-length : (n : ℕ) (s : List ℕ) → length (words-of n s) ≡ n
+unfolding words-of
 words-length zero s = refl
-words-length (suc n) s = ap suc (words-length n (afterWord (unblank s)))
+words-length (suc n) s = ap suc (words-length n (after-word (unblank s)))
 
-pub named-there : (w s : List ℕ) (n : ℕ) (why : Reason) {k : ℕ} → k ≡ placeOf w (wordsOf n s) → k < n → Given k ≡ named w (wordsOf n s) why
+pub named-there : (w s : List ℕ) (n : ℕ) (why : Reason) {k : ℕ} → k ≡ place-of w (words-of n s) → k < n → Given k ≡ named w (words-of n s) why
 unfolding named
 named-there w s n why e h = simp (words-length n s, sym e, lt-ltb _ _ h)
 
-pub named-none : (w s : List ℕ) (n : ℕ) (why : Reason) {k : ℕ} → k ≡ placeOf w (wordsOf n s) → n ≤ k → Wrong why ≡ named w (wordsOf n s) why
+pub named-none : (w s : List ℕ) (n : ℕ) (why : Reason) {k : ℕ} → k ≡ place-of w (words-of n s) → n ≤ k → Wrong why ≡ named w (words-of n s) why
 unfolding named
 named-none w s n why e h = simp (words-length n s, sym e, le-ltb _ _ h)
 
-pub access-named : (w : List ℕ) → named w (wordsOf 3 (ascii "r w x")) AccessExpected ≡ argumentOf Access w
-unfolding argumentOf wordsOf unblank wordOf afterWord blank
+pub access-named : (w : List ℕ) → named w (words-of 3 (ascii "r w x")) AccessExpected ≡ argument-of Access w
+unfolding argument-of words-of unblank leading-word after-word blank
 access-named w = refl
 
-pub level-named : (w : List ℕ) → named w (wordsOf 2 (ascii "el0 el1")) LevelExpected ≡ argumentOf Level w
-unfolding argumentOf wordsOf unblank wordOf afterWord blank
+pub level-named : (w : List ℕ) → named w (words-of 2 (ascii "el0 el1")) LevelExpected ≡ argument-of Level w
+unfolding argument-of words-of unblank leading-word after-word blank
 level-named w = refl
 
 -- what a table has at a place
@@ -87,13 +87,13 @@ pub words : List Entry → List (List ℕ)
 words [] = []
 words (e ∷ t) = e .word ∷ words t
 
-looked : (w : List ℕ) (t : List Entry) (other : First) → chosen t (placeOf w (words t)) other ≡ lookup w t other
-unfolding lookup placeOf words
+looked : (w : List ℕ) (t : List Entry) (other : First) → chosen t (place-of w (words t)) other ≡ lookup w t other
+unfolding lookup place-of words
 looked w [] other = refl
-looked w (e ∷ t) other = go (sameText w (e .word)) (looked w t other)
+looked w (e ∷ t) other = go (same-text w (e .word)) (looked w t other)
   where
-    go : (b : Bool) → chosen t (placeOf w (words t)) other ≡ lookup w t other
-        → chosen (e ∷ t) (cond b 0 (suc (placeOf w (words t)))) other ≡ cond b (Known (e .verb)) (lookup w t other)
+    go : (b : Bool) → chosen t (place-of w (words t)) other ≡ lookup w t other
+        → chosen (e ∷ t) (cond b 0 (suc (place-of w (words t)))) other ≡ cond b (Known (e .verb)) (lookup w t other)
     go true h = refl
     go false h = h
 
@@ -115,17 +115,17 @@ apart (suc n) r h =
     omega arith
 
 -- what w asks for by a table, from its place among the table's words
-module _ (t : List Entry) (w : List ℕ) (other : First) {l : List (List ℕ)} (same : l ≡ words t) {r : ℕ} (e : r ≡ placeOf w l) where
+module _ (t : List Entry) (w : List ℕ) (other : First) {l : List (List ℕ)} (same : l ≡ words t) {r : ℕ} (e : r ≡ place-of w l) where
   pub at-place : {k : ℕ} → r ≡ k → chosen t k other ≡ lookup w t other
   at-place h = rw (← h, e, same) (looked w t other)
 
   pub no-place : Apart (length t) r → other ≡ lookup w t other
   no-place d = beyond t r other (apart (length t) r d) ∙ at-place refl
 
-pub verb-words : wordsOf 9 (ascii "setup word peek stage2 walk translate frame guest ledger") ≡ words verbs
-unfolding wordsOf words unblank wordOf afterWord blank
+pub verb-words : words-of 9 (ascii "setup word peek stage2 walk translate frame guest ledger") ≡ words verbs
+unfolding words-of words unblank leading-word after-word blank
 verb-words = refl
 
-pub deed-words : wordsOf 9 (ascii "create give map unmap share unshare take destroy invalidated") ≡ words deeds
-unfolding wordsOf words unblank wordOf afterWord blank
+pub deed-words : words-of 9 (ascii "create give map unmap share unshare take destroy invalidated") ≡ words deeds
+unfolding words-of words unblank leading-word after-word blank
 deed-words = refl

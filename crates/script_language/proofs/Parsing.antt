@@ -19,8 +19,8 @@ use Rattle.script_language.specs.declared.Reason.the-variants.{TooFewWor
 use Rattle.script_language.specs.declared.Read.{Read}
 use Rattle.script_language.specs.declared.Read.the-variants.{Nothing, Asked, Unread}
 use Rattle.script_text.specs.Words.{unblank, Ended}
-use Rattle.script_language.specs.Verbs.{nth, commandWith, firstOf}
-use Rattle.script_language.specs.Commands.{argumentOf, Values, values, failed, joined, valuesOf, readFrom, afterFirst, readIn}
+use Rattle.script_language.specs.Verbs.{nth, command-with, first-word}
+use Rattle.script_language.specs.Commands.{argument-of, Values, values, failed, joined, values-of, read-from, read-after-first, read-words}
 
 -- the values p, and then those of the rest
 unfoldable pub before : List ℕ → Values → Values
@@ -42,7 +42,7 @@ pub record Reading (fs : List Form) (s a : List ℕ) (at i : ℕ) : Type 0 where
   pub inside : at ≤ length s
   pub room : length a ≡ 5
   pub unset : (k : ℕ) → i ≤ k → nth a k ≡ 0
-  pub so-far : valuesOf fs s ≡ before (take i a) (valuesOf (drop i fs) (drop at s))
+  pub so-far : values-of fs s ≡ before (take i a) (values-of (drop i fs) (drop at s))
 
 zeros : (n k : ℕ) → nth (replicate n 0) k ≡ 0
 zeros zero k = refl
@@ -57,36 +57,36 @@ empty : (s : List ℕ) (at from : ℕ) → from ≡ length s → drop from s ≡
 empty s at from e u = ap length (sym u) ∙ length-drop from s ∙ omega arith
 
 few-at : (fs : List Form) (i : ℕ) (s : List ℕ) (at from : ℕ) → i < length fs → from ≡ length s → drop from s ≡ unblank (drop at s)
-    → valuesOf (drop i fs) (drop at s) ≡ failed TooFewWords
-unfolding valuesOf
+    → values-of (drop i fs) (drop at s) ≡ failed TooFewWords
+unfolding values-of
 few-at fs i s at from h e u = rw (drop-cons fs i Plain h, eq-eqb _ _ (empty s at from e u))
 
 pub too-few : (v : Verb) {fs : List Form} {s a : List ℕ} {at i from : ℕ} → Reading fs s a at i → i < length fs → from ≡ length s
-    → drop from s ≡ unblank (drop at s) → Unread TooFewWords ≡ readFrom v (valuesOf fs s)
+    → drop from s ≡ unblank (drop at s) → Unread TooFewWords ≡ read-from v (values-of fs s)
 unfolding before
 too-few v {fs} {s} {a} {at} {i} {from} p h e u = rw (p .so-far, few-at fs i s at from h e u)
 
 -- the next word, and its argument
 values-at : (fs : List Form) (i : ℕ) (s : List ℕ) (at from to : ℕ) (x : Argument) → i < length fs → from ≤ length s
     → (from ≡ length s → ⊥) → drop from s ≡ unblank (drop at s) → Ended s from to
-    → x ≡ argumentOf (getD fs i Plain) (take (to - from) (drop from s))
-    → valuesOf (drop i fs) (drop at s) ≡ joined x (valuesOf (drop (i + 1) fs) (drop to s))
-unfolding valuesOf
+    → x ≡ argument-of (getD fs i Plain) (take (to - from) (drop from s))
+    → values-of (drop i fs) (drop at s) ≡ joined x (values-of (drop (i + 1) fs) (drop to s))
+unfolding values-of
 values-at fs i s at from to x h le some u w e =
     let n : length (drop from s) ≡ 0 → ⊥ = λ z. some (omega (arith, length-drop from s)) in
     rw (add-one i, drop-cons fs i Plain h, ← u, ne-eqb _ _ n, e, w .word, w .after)
 
 pub wrong-word : (v : Verb) {fs : List Form} {s a : List ℕ} {at i from to : ℕ} {x : Argument} {r : Reason} → Reading fs s a at i → i < length fs
     → from ≤ length s → (from ≡ length s → ⊥) → drop from s ≡ unblank (drop at s) → Ended s from to
-    → x ≡ argumentOf (getD fs i Plain) (take (to - from) (drop from s)) → x ≡ Wrong r
-    → Unread r ≡ readFrom v (valuesOf fs s)
+    → x ≡ argument-of (getD fs i Plain) (take (to - from) (drop from s)) → x ≡ Wrong r
+    → Unread r ≡ read-from v (values-of fs s)
 unfolding before
 wrong-word v {fs} {s} {a} {at} {i} {from} {to} {x} {r} p h le some u w e k =
     rw (p .so-far, values-at fs i s at from to x h le some u w e, k)
 
 pub reading-more : {fs : List Form} {s a : List ℕ} {at i from to : ℕ} {x : Argument} {n : ℕ} → Reading fs s a at i → i < length fs → i < 5
     → from ≤ length s → (from ≡ length s → ⊥) → drop from s ≡ unblank (drop at s) → Ended s from to
-    → x ≡ argumentOf (getD fs i Plain) (take (to - from) (drop from s)) → x ≡ Given n
+    → x ≡ argument-of (getD fs i Plain) (take (to - from) (drop from s)) → x ≡ Given n
     → Reading fs s (set a i n) to (i + 1)
 reading-more {fs} {s} {a} {at} {i} {from} {to} {x} {n} p h five le some u w e k =
     let room = p .room in
@@ -97,18 +97,18 @@ reading-more {fs} {s} {a} {at} {i} {from} {to} {x} {n} p h five le some u w e k 
       unset = λ k l. getD-set-other a i k n 0 (λ z. omega arith) ∙ p .unset k (omega arith);
       so-far =
           p .so-far
-          ∙ rw (values-at fs i s at from to x h le some u w e, k, before-one (take i a) n (valuesOf (drop (i + 1) fs) (drop to s)))
+          ∙ rw (values-at fs i s at from to x h le some u w e, k, before-one (take i a) n (values-of (drop (i + 1) fs) (drop to s)))
           (rw (add-one i, take-suc-set a i n g));
     }
 
 -- all arguments are read
 last-at : (fs : List Form) (i : ℕ) (s : List ℕ) → length fs ≤ i
-    → valuesOf (drop i fs) s ≡ cond (eqb (length (unblank s)) 0) (values []) (failed TooManyWords)
-unfolding valuesOf
+    → values-of (drop i fs) s ≡ cond (eqb (length (unblank s)) 0) (values []) (failed TooManyWords)
+unfolding values-of
 last-at fs i s h = rw (drop-of-length-le fs h)
 
 pub too-many : (v : Verb) {fs : List Form} {s a : List ℕ} {at i from : ℕ} → Reading fs s a at i → length fs ≤ i → from ≤ length s
-    → (from ≡ length s → ⊥) → drop from s ≡ unblank (drop at s) → Unread TooManyWords ≡ readFrom v (valuesOf fs s)
+    → (from ≡ length s → ⊥) → drop from s ≡ unblank (drop at s) → Unread TooManyWords ≡ read-from v (values-of fs s)
 unfolding before
 too-many v {fs} {s} {a} {at} {i} {from} p h le some u =
     let n : length (drop from s) ≡ 0 → ⊥ = λ z. some (omega (arith, length-drop from s)) in
@@ -122,20 +122,20 @@ taken (suc i) zero (x ∷ a) h = refl
 taken (suc i) (suc k) (x ∷ a) h = taken i k a (λ p. h (omega arith))
 
 pub all-read : (v : Verb) {fs : List Form} {s a : List ℕ} {at i from : ℕ} → Reading fs s a at i → length fs ≤ i → from ≡ length s
-    → drop from s ≡ unblank (drop at s) → Asked (commandWith v (nth a)) ≡ readFrom v (valuesOf fs s)
+    → drop from s ≡ unblank (drop at s) → Asked (command-with v (nth a)) ≡ read-from v (values-of fs s)
 unfolding before
 all-read v {fs} {s} {a} {at} {i} {from} p h e u =
     rw (p .so-far, last-at fs i (drop at s) h, eq-eqb _ _ (empty s at from e u), append-nil (take i a))
-    (ap (λ (x : ℕ → ℕ). Asked (commandWith v x)) (fun-ext (λ k. taken i k a (p .unset k))))
+    (ap (λ (x : ℕ → ℕ). Asked (command-with v x)) (fun-ext (λ k. taken i k a (p .unset k))))
 
 -- a line's first word
-pub no-word : (s : List ℕ) {from : ℕ} → from ≡ length s → drop from s ≡ unblank s → Nothing ≡ readIn (unblank s)
-unfolding readIn
+pub no-word : (s : List ℕ) {from : ℕ} → from ≡ length s → drop from s ≡ unblank s → Nothing ≡ read-words (unblank s)
+unfolding read-words
 no-word s {from} e u = rw (eq-eqb _ _ (empty s 0 from e u))
 
 pub first-there : (s : List ℕ) {from to : ℕ} → from ≤ length s → (from ≡ length s → ⊥) → drop from s ≡ unblank s → Ended s from to
-    → afterFirst (firstOf (take (to - from) (drop from s))) (drop to s) ≡ readIn (unblank s)
-unfolding readIn
+    → read-after-first (first-word (take (to - from) (drop from s))) (drop to s) ≡ read-words (unblank s)
+unfolding read-words
 first-there s {from} {to} le some u w =
     let n : length (drop from s) ≡ 0 → ⊥ = λ z. some (omega (arith, length-drop from s)) in
     rw (← u, ne-eqb _ _ n, w .word, w .after)

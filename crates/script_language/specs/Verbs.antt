@@ -18,7 +18,7 @@ use Rattle.script_language.specs.declared.Command.{Command}
 use Rattle.script_language.specs.declared.Command.the-variants.{SetUp, StoreWord, Operate, Ask}
 use Rattle.script_language.specs.declared.Question.the-variants.{PeekWord, WalkOne, WalkBoth, Translate, Frame, Guest, Ledger}
 use Rattle.script_text.specs.Text.{ascii}
-use Rattle.script_text.specs.Words.{unblank, wordOf, afterWord, sameText}
+use Rattle.script_text.specs.Words.{unblank, leading-word, after-word, same-text}
 
 -- a command's word, and what it asks for
 pub record Entry : Type 0 where
@@ -57,87 +57,87 @@ verbs =
 -- what the word w asks for by a table, and `other` where it is none of its words
 unfoldable pub lookup : List ℕ → List Entry → First → First
 lookup w [] other = other
-lookup w (e ∷ t) other = cond (sameText w (e .word)) (Known (e .verb)) (lookup w t other)
+lookup w (e ∷ t) other = cond (same-text w (e .word)) (Known (e .verb)) (lookup w t other)
 
-unfoldable pub deedOf : List ℕ → First
-deedOf w = lookup w deeds Unknown
+unfoldable pub deed-of : List ℕ → First
+deed-of w = lookup w deeds Unknown
 
-unfoldable pub firstOf : List ℕ → First
-firstOf w = lookup w verbs (deedOf w)
+unfoldable pub first-word : List ℕ → First
+first-word w = lookup w verbs (deed-of w)
 
 -- the same as the code finds it, by the word's place in a text
-unfoldable pub wordsOf : ℕ → List ℕ → List (List ℕ)
-wordsOf zero s = []
-wordsOf (suc n) s = wordOf (unblank s) ∷ wordsOf n (afterWord (unblank s))
+unfoldable pub words-of : ℕ → List ℕ → List (List ℕ)
+words-of zero s = []
+words-of (suc n) s = leading-word (unblank s) ∷ words-of n (after-word (unblank s))
 
-unfoldable pub placeOf : List ℕ → List (List ℕ) → ℕ
-placeOf w [] = 0
-placeOf w (x ∷ l) = cond (sameText w x) 0 (suc (placeOf w l))
+unfoldable pub place-of : List ℕ → List (List ℕ) → ℕ
+place-of w [] = 0
+place-of w (x ∷ l) = cond (same-text w x) 0 (suc (place-of w l))
 
 -- what follows: so many numbers
-unfoldable pub deedNumbers : Deed → ℕ
-deedNumbers Creating = 1
-deedNumbers Giving = 2
-deedNumbers Mapping = 4
-deedNumbers Unmapping = 2
-deedNumbers Sharing = 4
-deedNumbers Unsharing = 3
-deedNumbers Taking = 2
-deedNumbers Destroying = 1
-deedNumbers Invalidating = 1
+unfoldable pub numbers-for-deed : Deed → ℕ
+numbers-for-deed Creating = 1
+numbers-for-deed Giving = 2
+numbers-for-deed Mapping = 4
+numbers-for-deed Unmapping = 2
+numbers-for-deed Sharing = 4
+numbers-for-deed Unsharing = 3
+numbers-for-deed Taking = 2
+numbers-for-deed Destroying = 1
+numbers-for-deed Invalidating = 1
 
-unfoldable pub numbersOf : Verb → ℕ
-numbersOf Setup = 3
-numbersOf Word = 2
-numbersOf Peek = 1
-numbersOf Stage2 = 2
-numbersOf Walk = 3
-numbersOf Translation = 2
-numbersOf OneFrame = 1
-numbersOf OneGuest = 1
-numbersOf WholeLedger = 0
-numbersOf (Monitor d) = deedNumbers d
+unfoldable pub numbers-for : Verb → ℕ
+numbers-for Setup = 3
+numbers-for Word = 2
+numbers-for Peek = 1
+numbers-for Stage2 = 2
+numbers-for Walk = 3
+numbers-for Translation = 2
+numbers-for OneFrame = 1
+numbers-for OneGuest = 1
+numbers-for WholeLedger = 0
+numbers-for (Monitor d) = numbers-for-deed d
 
 -- and then, for one stage, a kind of access; for both stages, that and an exception level
-unfoldable pub othersOf : Verb → ℕ
-othersOf Setup = 0
-othersOf Word = 0
-othersOf Peek = 0
-othersOf Stage2 = 1
-othersOf Walk = 2
-othersOf Translation = 1
-othersOf OneFrame = 0
-othersOf OneGuest = 0
-othersOf WholeLedger = 0
-othersOf (Monitor d) = 0
+unfoldable pub others-for : Verb → ℕ
+others-for Setup = 0
+others-for Word = 0
+others-for Peek = 0
+others-for Stage2 = 1
+others-for Walk = 2
+others-for Translation = 1
+others-for OneFrame = 0
+others-for OneGuest = 0
+others-for WholeLedger = 0
+others-for (Monitor d) = 0
 
-unfoldable pub formsOf : ℕ → ℕ → List Form
-formsOf n k = replicate n Plain ++ take k (Access ∷ Level ∷ [])
+unfoldable pub forms-of : ℕ → ℕ → List Form
+forms-of n k = replicate n Plain ++ take k (Access ∷ Level ∷ [])
 
 -- the argument at each place
 abbrev pub nth : List ℕ → ℕ → ℕ
 nth a i = getD a i 0
 
 -- `create G`, `give F G`, `map F G A R`, `unmap A G`, `share G F H W`, `unshare G F H`, `take F G`, `destroy G`, `invalidated G`
-unfoldable pub operationWith : Deed → (ℕ → ℕ) → Operation
-operationWith Creating a = Create (a 0)
-operationWith Giving a = Give (a 0) (a 1)
-operationWith Mapping a = Map (a 0) (a 1) (a 2) (a 3)
-operationWith Unmapping a = Unmap (a 0) (a 1)
-operationWith Sharing a = Share (a 0) (a 1) (a 2) (a 3)
-operationWith Unsharing a = Unshare (a 0) (a 1) (a 2)
-operationWith Taking a = Take (a 0) (a 1)
-operationWith Destroying a = Destroy (a 0)
-operationWith Invalidating a = Invalidated (a 0)
+unfoldable pub operation-with : Deed → (ℕ → ℕ) → Operation
+operation-with Creating a = Create (a 0)
+operation-with Giving a = Give (a 0) (a 1)
+operation-with Mapping a = Map (a 0) (a 1) (a 2) (a 3)
+operation-with Unmapping a = Unmap (a 0) (a 1)
+operation-with Sharing a = Share (a 0) (a 1) (a 2) (a 3)
+operation-with Unsharing a = Unshare (a 0) (a 1) (a 2)
+operation-with Taking a = Take (a 0) (a 1)
+operation-with Destroying a = Destroy (a 0)
+operation-with Invalidating a = Invalidated (a 0)
 
-unfoldable pub commandWith : Verb → (ℕ → ℕ) → Command
-commandWith Setup a = SetUp (a 0) (a 1) (a 2)
-commandWith Word a = StoreWord (a 0) (a 1)
-commandWith Peek a = Ask (PeekWord (a 0))
-commandWith Stage2 a = Ask (WalkOne (a 0) (a 1) (a 2))
-commandWith Walk a = Ask (WalkBoth (a 0) (a 1) (a 2) (a 3) (a 4))
-commandWith Translation a = Ask (Translate (a 0) (a 1) (a 2))
-commandWith OneFrame a = Ask (Frame (a 0))
-commandWith OneGuest a = Ask (Guest (a 0))
-commandWith WholeLedger a = Ask Ledger
-commandWith (Monitor d) a = Operate (operationWith d a)
+unfoldable pub command-with : Verb → (ℕ → ℕ) → Command
+command-with Setup a = SetUp (a 0) (a 1) (a 2)
+command-with Word a = StoreWord (a 0) (a 1)
+command-with Peek a = Ask (PeekWord (a 0))
+command-with Stage2 a = Ask (WalkOne (a 0) (a 1) (a 2))
+command-with Walk a = Ask (WalkBoth (a 0) (a 1) (a 2) (a 3) (a 4))
+command-with Translation a = Ask (Translate (a 0) (a 1) (a 2))
+command-with OneFrame a = Ask (Frame (a 0))
+command-with OneGuest a = Ask (Guest (a 0))
+command-with WholeLedger a = Ask Ledger
+command-with (Monitor d) a = Operate (operation-with d a)

@@ -2,8 +2,8 @@
 ghost use mathlib.Core.Path.{_≡_};
 ghost use Prim.Native.Nat.{ℕ, _<_};
 ghost use lib.ListN.{length, getD};
-ghost use Rattle.script_language.specs.Verbs.{wordsOf, formsOf};
-ghost use Rattle.script_language.specs.Commands.{named, argumentOf, valuesFor, readFrom};
+ghost use Rattle.script_language.specs.Verbs.{words-of, forms-of};
+ghost use Rattle.script_language.specs.Commands.{named, argument-of, values-for, read-from};
 use crate::Read;
 use crate::Reason;
 use crate::verbs::Verb;
@@ -25,7 +25,7 @@ pub enum Form {
 
 // The form of argument i, of which the first ones are numbers.
 fn form_of(numbers: usize, i: usize) -> Form
-    ensures { λ r. ⌜ ((k : ℕ) → i < length (formsOf numbers k) → r ≡ getD (formsOf numbers k) i Form.Plain) ⌝ }
+    ensures { λ r. ⌜ ((k : ℕ) → i < length (forms-of numbers k) → r ≡ getD (forms-of numbers k) i Form.Plain) ⌝ }
 {
     if i < numbers {
         return Form::Plain;
@@ -44,7 +44,7 @@ pub enum Argument {
 
 // A word that is one of the first n of `names`: its place there.
 fn name_argument(w: &[u8], names: &[u8], n: usize, why: Reason) -> Argument
-    ensures { λ r. ⌜ r ≡ named (now (w .entry)) (wordsOf n (now (names .entry))) why ⌝ }
+    ensures { λ r. ⌜ r ≡ named (now (w .entry)) (words-of n (now (names .entry))) why ⌝ }
 {
     let k = place(w, names, n);
     if k < n {
@@ -54,7 +54,7 @@ fn name_argument(w: &[u8], names: &[u8], n: usize, why: Reason) -> Argument
 }
 
 fn number_argument(s: &[u8]) -> Argument
-    ensures { λ r. ⌜ r ≡ argumentOf Form.Plain (now (s .entry)) ⌝ }
+    ensures { λ r. ⌜ r ≡ argument-of Form.Plain (now (s .entry)) ⌝ }
 {
     match number(s) {
         Numeral::Value(v) => Argument::Given(v),
@@ -64,7 +64,7 @@ fn number_argument(s: &[u8]) -> Argument
 }
 
 fn read_argument(f: Form, s: &[u8]) -> Argument
-    ensures { λ r. ⌜ r ≡ argumentOf f (now (s .entry)) ⌝ }
+    ensures { λ r. ⌜ r ≡ argument-of f (now (s .entry)) ⌝ }
 {
     match f {
         Form::Plain => number_argument(s),
@@ -75,7 +75,7 @@ fn read_argument(f: Form, s: &[u8]) -> Argument
 
 // The words after the first, read as v wants them.
 pub fn arguments(v: Verb, s: &[u8]) -> Read
-    ensures { λ r. ⌜ r ≡ readFrom v (valuesFor v (now (s .entry))) ⌝ }
+    ensures { λ r. ⌜ r ≡ read-from v (values-for v (now (s .entry))) ⌝ }
 {
     let numbers = numbers_of(v);
     let n = numbers + others_of(v);

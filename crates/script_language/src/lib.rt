@@ -1,7 +1,7 @@
 // The script language's lines: a line is taken apart into a command, or into why it can't be read.
 // It knows the commands' words and arguments, and not what they do.
 ghost use mathlib.Core.Path.{_≡_};
-ghost use Rattle.script_language.specs.Commands.{afterFirst, readIn, readOf};
+ghost use Rattle.script_language.specs.Commands.{read-after-first, read-words, read-of};
 ghost use Rattle.script_text.specs.Words.{unblank};
 
 mod arguments;
@@ -123,7 +123,7 @@ pub enum Read {
 }
 
 fn after_first(w: First, s: &[u8]) -> Read
-    ensures { λ r. ⌜ r ≡ afterFirst w (now (s .entry)) ⌝ }
+    ensures { λ r. ⌜ r ≡ read-after-first w (now (s .entry)) ⌝ }
 {
     match w {
         First::Known(v) => arguments(v, s),
@@ -132,7 +132,7 @@ fn after_first(w: First, s: &[u8]) -> Read
 }
 
 fn read_text(s: &[u8]) -> Read
-    ensures { λ r. ⌜ r ≡ readIn (unblank (now (s .entry))) ⌝ }
+    ensures { λ r. ⌜ r ≡ read-words (unblank (now (s .entry))) ⌝ }
 {
     let from = word_start(s, 0);
     if from == s.len() {
@@ -144,7 +144,7 @@ fn read_text(s: &[u8]) -> Read
 
 // Reads a line, given without its line end.
 pub fn read_line(line: &[u8]) -> Read
-    ensures { λ r. ⌜ r ≡ readOf (now (line .entry)) ⌝ }
+    ensures { λ r. ⌜ r ≡ read-of (now (line .entry)) ⌝ }
 {
     if 4096 <= line.len() {
         return Read::Unread(Reason::LineTooLong);

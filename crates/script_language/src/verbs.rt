@@ -1,6 +1,6 @@
 // A line's first word: which command it asks for, what arguments follow, and the command that they make.
 ghost use mathlib.Core.Path.{_≡_};
-ghost use Rattle.script_language.specs.Verbs.{wordsOf, placeOf, deedOf, firstOf, deedNumbers, numbersOf, othersOf, nth, operationWith, commandWith};
+ghost use Rattle.script_language.specs.Verbs.{words-of, place-of, deed-of, first-word, numbers-for-deed, numbers-for, others-for, nth, operation-with, command-with};
 use crate::Command;
 use crate::Operation;
 use crate::Question;
@@ -42,7 +42,7 @@ pub enum First {
 
 // Which of the first n words of `names` is w; n where none is.
 pub fn place(w: &[u8], names: &[u8], n: usize) -> usize
-    ensures { λ r. ⌜ r ≡ placeOf (now (w .entry)) (wordsOf n (now (names .entry))) ⌝ }
+    ensures { λ r. ⌜ r ≡ place-of (now (w .entry)) (words-of n (now (names .entry))) ⌝ }
 {
     let mut at = 0;
     let mut k = 0;
@@ -58,7 +58,7 @@ pub fn place(w: &[u8], names: &[u8], n: usize) -> usize
 }
 
 fn deed_word(w: &[u8]) -> First
-    ensures { λ r. ⌜ r ≡ deedOf (now (w .entry)) ⌝ }
+    ensures { λ r. ⌜ r ≡ deed-of (now (w .entry)) ⌝ }
 {
     let k = place(
         w,
@@ -80,7 +80,7 @@ fn deed_word(w: &[u8]) -> First
 }
 
 pub fn first_word(w: &[u8]) -> First
-    ensures { λ r. ⌜ r ≡ firstOf (now (w .entry)) ⌝ }
+    ensures { λ r. ⌜ r ≡ first-word (now (w .entry)) ⌝ }
 {
     let k = place(
         w,
@@ -103,7 +103,7 @@ pub fn first_word(w: &[u8]) -> First
 
 // How many numbers follow.
 fn deed_numbers(d: Deed) -> usize
-    ensures { λ r. ⌜ r ≡ deedNumbers d ⌝ }
+    ensures { λ r. ⌜ r ≡ numbers-for-deed d ⌝ }
 {
     match d {
         Deed::Creating => 1,
@@ -119,7 +119,7 @@ fn deed_numbers(d: Deed) -> usize
 }
 
 pub fn numbers_of(v: Verb) -> usize
-    ensures { λ r. ⌜ r ≡ numbersOf v ⌝ }
+    ensures { λ r. ⌜ r ≡ numbers-for v ⌝ }
 {
     match v {
         Verb::Setup => 3,
@@ -137,7 +137,7 @@ pub fn numbers_of(v: Verb) -> usize
 
 // How many of a kind of access and a level follow the numbers.
 pub fn others_of(v: Verb) -> usize
-    ensures { λ r. ⌜ r ≡ othersOf v ⌝ }
+    ensures { λ r. ⌜ r ≡ others-for v ⌝ }
 {
     match v {
         Verb::Setup => 0,
@@ -154,7 +154,7 @@ pub fn others_of(v: Verb) -> usize
 }
 
 fn operation(d: Deed, a: [u64; 5]) -> Operation
-    ensures { λ r. ⌜ r ≡ operationWith d (nth a) ⌝ }
+    ensures { λ r. ⌜ r ≡ operation-with d (nth a) ⌝ }
 {
     let x = a[0];
     let y = a[1];
@@ -191,7 +191,7 @@ fn operation(d: Deed, a: [u64; 5]) -> Operation
 }
 
 pub fn made(v: Verb, a: [u64; 5]) -> Command
-    ensures { λ r. ⌜ r ≡ commandWith v (nth a) ⌝ }
+    ensures { λ r. ⌜ r ≡ command-with v (nth a) ⌝ }
 {
     let x = a[0];
     let y = a[1];

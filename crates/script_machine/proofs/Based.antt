@@ -10,10 +10,11 @@ use Rattle.walk.specs.declared.Answer.the-variants.{Refused}
 use Rattle.model.specs.State.{State}
 use Rattle.model.specs.Operations.{Out, refuse, done, refusal, check, set-up, started}
 use Rattle.model.specs.Machine as M
-use Rattle.model.specs.Invariant.Answer.{Then, then-done}
-use Rattle.model.specs.Invariant.Orderly.{Orderly, orderly}
+use Rattle.model.proofs.Invariant.Answer.{Then, then-done}
+use Rattle.model.proofs.Invariant.Orderly.{Orderly, orderly}
 use Rattle.ledger.specs.Layout.{first-of, size-of, root-of, exists-of, word-of, pick-of, state-in, state-of}
-use Rattle.ledger.specs.Sound.{Sound, chosen}
+use Rattle.ledger.specs.Sound.{Sound}
+use Rattle.ledger.proofs.Laws.Sound.{chosen}
 use Rattle.monitor.specs.Answers as A
 use Rattle.monitor.specs.SetUp as S
 use Rattle.monitor_query.specs.Questions.{translated}
@@ -22,16 +23,16 @@ use Rattle.script_language.specs.declared.Operation.the-variants.{Create, Give,
 use Rattle.script_machine.specs.declared.Machine.{Machine}
 use Rattle.script_machine.specs.declared.Reply.the-variants.{Code, Walked}
 use Rattle.script_machine.specs.Operations.{operation}
-use Rattle.script_machine.specs.Machine.{Kept, ramOf, ledgerOf, walkedOne, translation}
+use Rattle.script_machine.specs.Machine.{Kept, ram-of, ledger-of, walked-one, translation}
 use Rattle.script_machine.specs.Laws.{size-is}
 
 module _ (m l : List ℕ) (ok : Sound m l) where
   -- it is answered in good order
   in-order : (o : Operation) → Then (Orderly (state-of m l)) (operation o (state-of m l) (pick-of l))
   unfolding M.answer
-  in-order (Create g) = orderly (state-of m l) (ok .core) (M.Create g (pick-of l)) (chosen l (ok .stock) m)
+  in-order (Create g) = orderly (state-of m l) (ok .core) (M.Create g (pick-of l)) (chosen l (ok .ledger-sound) m)
   in-order (Give f g) = orderly (state-of m l) (ok .core) (M.Give f g) tt
-  in-order (Map f g a r) = orderly (state-of m l) (ok .core) (M.Map f g a r (pick-of l)) (chosen l (ok .stock) m)
+  in-order (Map f g a r) = orderly (state-of m l) (ok .core) (M.Map f g a r (pick-of l)) (chosen l (ok .ledger-sound) m)
   in-order (Unmap a g) = orderly (state-of m l) (ok .core) (M.Unmap g a) tt
   in-order (Share g f h w) = orderly (state-of m l) (ok .core) (M.Share g f h w) tt
   in-order (Unshare g f h) = orderly (state-of m l) (ok .core) (M.Unshare g f h) tt
@@ -63,15 +64,15 @@ same-walk : (x : List ℕ) {b b′ n n′ r r′ : ℕ} (a w : ℕ) → b ≡ b�
 same-walk x a w p q s = λ i. answer-2 x (p i) (q i) (s i) a w
 
 pub translated-so : {m : Machine} {ram l : List ℕ} → Kept m ram l → m .ready ≡ true → (g a w : ℕ) →
-    cond (exists-of (ledgerOf m l) g) (Walked (translated (ramOf m ram) (ledgerOf m l) g a w)) (Code 5) ≡ translation m ram l g a w
+    cond (exists-of (ledger-of m l) g) (Walked (translated (ram-of m ram) (ledger-of m l) g a w)) (Code 5) ≡ translation m ram l g a w
 unfolding translation translated
-translated-so {m} {ram} {l} k h g a w = go (exists-of (ledgerOf m l) g)
+translated-so {m} {ram} {l} k h g a w = go (exists-of (ledger-of m l) g)
   where
-    root : 4096 * (first-of (ledgerOf m l) + root-of (ledgerOf m l) g) ≡ m .base + 4096 * root-of (ledgerOf m l) g
+    root : 4096 * (first-of (ledger-of m l) + root-of (ledger-of m l) g) ≡ m .base + 4096 * root-of (ledger-of m l) g
     root = let b = k .based h in omega arith
 
     go : (t : Bool) →
-        cond t (Walked (cond t (answer-2 (ramOf m ram) (4096 * first-of (ledgerOf m l)) (size-of (ledgerOf m l)) (4096 * (first-of (ledgerOf m l) + root-of (ledgerOf m l) g)) a w) Refused)) (Code 5)
-        ≡ cond t (walkedOne m ram (m .base + 4096 * root-of (ledgerOf m l) g) a w) (Code 5)
-    go true = ap (λ (z : Answer). Walked z) (same-walk (ramOf m ram) a w (sym (k .based h)) (size-is k h) root)
+        cond t (Walked (cond t (answer-2 (ram-of m ram) (4096 * first-of (ledger-of m l)) (size-of (ledger-of m l)) (4096 * (first-of (ledger-of m l) + root-of (ledger-of m l) g)) a w) Refused)) (Code 5)
+        ≡ cond t (walked-one m ram (m .base + 4096 * root-of (ledger-of m l) g) a w) (Code 5)
+    go true = ap (λ (z : Answer). Walked z) (same-walk (ram-of m ram) a w (sym (k .based h)) (size-is k h) root)
     go false = refl

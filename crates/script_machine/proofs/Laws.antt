@@ -8,24 +8,22 @@ use lib.Dec.{leb, ltb, eqb}
 use lib.ListN.{length, take, drop}
 use lib.Seq.{length-take-le, length-front, take-at, drop-at, take-set-lt}
 use borrow.Author.Tests.{leb-true, ltb-true, eqb-true, ne-eqb}
-use Rattle.memory.specs.Word.{storedAt, clearedAt}
-use Rattle.memory.specs.Laws.{length-kept, cleared-length}
-use Rattle.model.specs.State.{Kind, monitor, free, table, draining-table, page, draining-page, tabled}
-use Rattle.model.specs.Invariant.Kinds.{sort}
+use Rattle.memory.specs.Word.{stored-at, cleared-at}
+use Rattle.memory.proofs.Laws.Words.{length-kept, cleared-length}
+use Rattle.model.specs.State.{Frame-kind, monitor, free, table, draining-table, page, draining-page, tabled}
+use Rattle.model.specs.State.{sort}
 use Rattle.ledger.specs.Layout.{words-for, first-of, kind-of}
 use Rattle.ledger.specs.Sound.{Sound}
-use Rattle.ledger.specs.Beside.{word-beside}
+use Rattle.ledger.proofs.Laws.Beside.{word-beside}
 use Rattle.monitor.specs.Answers as A
 use Rattle.monitor.specs.SetUp as S
 use Rattle.script_language.specs.declared.Operation.{Operation}
-use Rattle.script_language.specs.declared.Command.{Command}
 use Rattle.script_language.specs.declared.Command.the-variants.{SetUp, StoreWord, Operate}
 use Rattle.script_machine.specs.declared.Machine.{Machine}
-use Rattle.script_machine.specs.declared.Outcome.{Outcome}
 use Rattle.script_machine.specs.declared.Reply.{Reply}
 use Rattle.script_machine.specs.declared.Reply.the-variants.{Done, Code}
 use Rattle.script_machine.specs.Operations.{operation}
-use Rattle.script_machine.specs.Machine.{Kept, allowedOf, inRam, inTable, ramOf, ledgerOf, outcome, machineOf, told, Executed}
+use Rattle.script_machine.specs.Machine.{Kept, allowed-of, word-in-ram, word-in-table, ram-of, ledger-of, outcome, machine-of, told, Executed}
 use Rattle.script_machine.specs.Laws.{ledger-within}
 use Rattle.script_machine.proofs.Based.{first-kept, started-so}
 
@@ -39,8 +37,8 @@ neither false true e = (refl, let z : _≡_ {A = Bool} false true = e in cc)
 neither false false e = (refl, refl)
 
 -- a word in RAM: where it is in the slice
-pub place : (m : Machine) (a : ℕ) → inRam m a ≡ true → (m .base ≤ a) × (a - m .base + 8 ≤ 4096 * m .frames)
-unfolding inRam
+pub place : (m : Machine) (a : ℕ) → word-in-ram m a ≡ true → (m .base ≤ a) × (a - m .base + 8 ≤ 4096 * m .frames)
+unfolding word-in-ram
 place m a e =
     let p = both (leb (m .base) a) (leb (a + 8) (m .base + 4096 * m .frames)) e in
     let low : m .base ≤ a = leb-true _ _ (p .0) in
@@ -57,8 +55,8 @@ pub record Allowed (lent words n b k : ℕ) : Type 0 where
   pub high : b + 4096 * n ≤ 2 ^ 48
   pub fewer : k < n
 
-pub allowed : (lent words n b k : ℕ) → allowedOf lent words n b k ≡ true → Allowed lent words n b k
-unfolding allowedOf
+pub allowed : (lent words n b k : ℕ) → allowed-of lent words n b k ≡ true → Allowed lent words n b k
+unfolding allowed-of
 allowed lent words n b k e =
     let p6 = both (leb 16 n && leb n 65536 && leb n lent && leb (words-for n) words && eqb (b % 4096) 0 && leb (b + 4096 * n) (2 ^ 48)) (ltb k n) e in
     let p5 = both (leb 16 n && leb n 65536 && leb n lent && leb (words-for n) words && eqb (b % 4096) 0) (leb (b + 4096 * n) (2 ^ 48)) (p6 .0) in
@@ -77,7 +75,7 @@ allowed lent words n b k e =
     }
 
 -- a frame that holds a table, by the number of what it is
-by-sort : (x : Kind) → tabled x ≡ (eqb (sort x) 2 || eqb (sort x) 3)
+by-sort : (x : Frame-kind) → tabled x ≡ (eqb (sort x) 2 || eqb (sort x) 3)
 by-sort monitor = refl
 by-sort free = refl
 by-sort (table g h p) = refl
@@ -104,7 +102,7 @@ module _ (n : ℕ) (xs ys : List ℕ) (low : n ≤ length xs) (len : length ys �
   rest = drop-at ys (drop n xs) n (len ∙ length-take-le n xs low)
 
 module _ (o : Operation) (m : Machine) (ram l : List ℕ) (kept : Kept m ram l) (h : m .ready ≡ true) where
-  pub operated : (k : ℕ) (ram₁ l₁ ram′ l′ : List ℕ) → A.Answers (operation o) (ramOf m ram) (ledgerOf m l) k ram₁ l₁ → length ram₁ ≡ length (ramOf m ram) → length l₁ ≡ length (ledgerOf m l) →
+  pub operated : (k : ℕ) (ram₁ l₁ ram′ l′ : List ℕ) → A.Answers (operation o) (ram-of m ram) (ledger-of m l) k ram₁ l₁ → length ram₁ ≡ length (ram-of m ram) → length l₁ ≡ length (ledger-of m l) →
       ram′ ≡ ram₁ ++ drop (4096 * m .frames) ram → l′ ≡ l₁ ++ drop (words-for (m .frames)) l → Executed (Operate o) m ram l ram′ l′ (outcome m (Code k))
   operated k ram₁ l₁ ram′ l′ x a b e f = record {
     does = rw h (k, refl, record { answers = rw (ram-is, ledger-is) x; ram-rest = rw e (rest _ ram ram₁ (kept .within) a); ledger-rest = rw f (rest _ l l₁ (ledger-within kept h) b) });
@@ -118,17 +116,17 @@ module _ (o : Operation) (m : Machine) (ram l : List ℕ) (kept : Kept m ram l) 
       ledger-is = rw f (back _ l l₁ (ledger-within kept h) b)
 
       based : m .base ≡ 4096 * first-of l₁
-      based = kept .based h ∙ ap (λ (z : ℕ). 4096 * z) (sym (first-kept (ramOf m ram) (ledgerOf m l) (kept .sound h) o k ram₁ l₁ x))
+      based = kept .based h ∙ ap (λ (z : ℕ). 4096 * z) (sym (first-kept (ram-of m ram) (ledger-of m l) (kept .sound h) o k ram₁ l₁ x))
 
 -- the monitor's set-up of what was allowed is answered with 0
-module _ (n b k : ℕ) (m : Machine) (ram l : List ℕ) (e : allowedOf (length ram / 4096) (length l) n b k ≡ true) where
+module _ (n b k : ℕ) (m : Machine) (ram l : List ℕ) (e : allowed-of (length ram / 4096) (length l) n b k ≡ true) where
   abbrev fits : Allowed (length ram / 4096) (length l) n b k
   fits = allowed (length ram / 4096) (length l) n b k e
 
-  pub begun : (answer : ℕ) (ram′ l₁ l′ : List ℕ) → ram′ ≡ clearedAt ram 0 (4096 * n) → S.SetUp n b k (take (4096 * n) ram′) (take (words-for n) l) answer l₁ →
-      length l₁ ≡ length (take (words-for n) l) → l′ ≡ l₁ ++ drop (words-for n) l → Executed (SetUp n b k) m ram l ram′ l′ (outcome (machineOf n b true) (Code answer))
+  pub begun : (answer : ℕ) (ram′ l₁ l′ : List ℕ) → ram′ ≡ cleared-at ram 0 (4096 * n) → S.SetUp n b k (take (4096 * n) ram′) (take (words-for n) l) answer l₁ →
+      length l₁ ≡ length (take (words-for n) l) → l′ ≡ l₁ ++ drop (words-for n) l → Executed (SetUp n b k) m ram l ram′ l′ (outcome (machine-of n b true) (Code answer))
   begun answer ram′ l₁ l′ c x len f = record {
-    does = rw e (ap (λ (z : ℕ). outcome (machineOf n b true) (Code z)) zero, record { cleared = c; started = rw ledger-is (subst (λ (z : ℕ). S.SetUp n b k (take (4096 * n) ram′) (take (words-for n) l) z l₁) zero x); rest = rw f (rest _ l l₁ (fits .room) len) });
+    does = rw e (ap (λ (z : ℕ). outcome (machine-of n b true) (Code z)) zero, record { cleared = c; started = rw ledger-is (subst (λ (z : ℕ). S.SetUp n b k (take (4096 * n) ram′) (take (words-for n) l) z l₁) zero x); rest = rw f (rest _ l l₁ (fits .room) len) });
     kept = record { within = ram-within; sound = λ _. rw ledger-is (x .sound zero); based = λ _. rw ledger-is based };
   }
     where
@@ -153,8 +151,8 @@ module _ (n b k : ℕ) (m : Machine) (ram l : List ℕ) (e : allowedOf (length r
       based = let e = made .1 in let f = fits .even in omega arith
 
 -- a word that is stored in a part
-stored-part : (n : ℕ) (xs : List ℕ) (at v : ℕ) → at + 8 ≤ n → take n (storedAt xs at v) ≡ storedAt (take n xs) at v
-unfolding storedAt
+stored-part : (n : ℕ) (xs : List ℕ) (at v : ℕ) → at + 8 ≤ n → take n (stored-at xs at v) ≡ stored-at (take n xs) at v
+unfolding stored-at
 stored-part n xs at v h =
     rw (
       take-set-lt n _ (at + 7) (v / 2 ^ 56 % 256) (omega arith),
@@ -167,14 +165,14 @@ stored-part n xs at v h =
       take-set-lt n xs at (v % 256) (omega arith),
     )
 
-module _ (m : Machine) (ram l : List ℕ) (kept : Kept m ram l) (a : ℕ) (e : inRam m a ≡ true) where
-  pub written : (v : ℕ) (t : Bool) → t ≡ (m .ready && not (inTable m l a)) → Executed (StoreWord a v) m ram l (storedAt ram (a - m .base) v) l (outcome (machineOf (m .frames) (m .base) t) Done)
+module _ (m : Machine) (ram l : List ℕ) (kept : Kept m ram l) (a : ℕ) (e : word-in-ram m a ≡ true) where
+  pub written : (v : ℕ) (t : Bool) → t ≡ (m .ready && not (word-in-table m l a)) → Executed (StoreWord a v) m ram l (stored-at ram (a - m .base) v) l (outcome (machine-of (m .frames) (m .base) t) Done)
   written v t q = record {
-    does = rw e (ap (λ (z : Bool). outcome (machineOf (m .frames) (m .base) z) Done) q, refl, refl);
-    kept = record { within = let w = kept .within in let c = length-kept ram (a - m .base) v in omega arith; sound = λ z. sound (both (m .ready) (not (inTable m l a)) (sym q ∙ z)); based = λ z. kept .based (both (m .ready) (not (inTable m l a)) (sym q ∙ z) .0) };
+    does = rw e (ap (λ (z : Bool). outcome (machine-of (m .frames) (m .base) z) Done) q, refl, refl);
+    kept = record { within = let w = kept .within in let c = length-kept ram (a - m .base) v in omega arith; sound = λ z. sound (both (m .ready) (not (word-in-table m l a)) (sym q ∙ z)); based = λ z. kept .based (both (m .ready) (not (word-in-table m l a)) (sym q ∙ z) .0) };
   }
     where
-      sound : (m .ready ≡ true) × (not (inTable m l a) ≡ true) → Sound (ramOf m (storedAt ram (a - m .base) v)) (ledgerOf m l)
+      sound : (m .ready ≡ true) × (not (word-in-table m l a) ≡ true) → Sound (ram-of m (stored-at ram (a - m .base) v)) (ledger-of m l)
       sound z =
-          let n = neither (tabled (kind-of (ledgerOf m l) ((a - m .base) / 4096))) (tabled (kind-of (ledgerOf m l) ((a - m .base + 7) / 4096))) (unfold inTable in z .1) in
-          rw (stored-part (4096 * m .frames) ram (a - m .base) v (place m a e .1)) (word-beside (ramOf m ram) (ledgerOf m l) (kept .sound (z .0)) (a - m .base) v (n .0) (n .1))
+          let n = neither (tabled (kind-of (ledger-of m l) ((a - m .base) / 4096))) (tabled (kind-of (ledger-of m l) ((a - m .base + 7) / 4096))) (unfold word-in-table in z .1) in
+          rw (stored-part (4096 * m .frames) ram (a - m .base) v (place m a e .1)) (word-beside (ram-of m ram) (ledger-of m l) (kept .sound (z .0)) (a - m .base) v (n .0) (n .1))

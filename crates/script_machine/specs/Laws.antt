@@ -7,8 +7,8 @@ use Prim.Native.Nat.{ℕ, _-_, _*_, _/_, _≤_}
 use native.Mathlib.Omega.{arith}
 use lib.ListN.{length}
 use lib.Seq.{length-take-le, take-all}
-use Rattle.model.specs.Base.{lt?}
-use Rattle.memory.specs.Word.{wordAt}
+use Rattle.model.proofs.Laws.Base.{lt?}
+use Rattle.memory.specs.Word.{word-at}
 use Rattle.walk.specs.declared.Answer.{Answer}
 use Rattle.ledger.specs.Layout.{words-for, size-of, exists-of}
 use Rattle.script_language.specs.declared.Operation.{Operation}
@@ -20,31 +20,31 @@ use Rattle.script_machine.specs.declared.Machine.{Machine}
 use Rattle.script_machine.specs.declared.Outcome.{Outcome}
 use Rattle.script_machine.specs.declared.Reply.{Reply}
 use Rattle.script_machine.specs.declared.Reply.the-variants.{Done, OutsideRam, Code, Contents, Walked, Frame, Guest, Ledger, NoLedger}
-use Rattle.script_machine.specs.Machine.{ramOf, ledgerOf, Kept, allowedOf, inRam, outcome, told, translation, said, Begins, Writes, Operates, Does, Executed}
+use Rattle.script_machine.specs.Machine.{ram-of, ledger-of, Kept, allowed-of, word-in-ram, outcome, told, translation, said, Begins, Writes, Operates, Does, Executed}
 
 -- how long the machine's part of a slice is
-pub ram-part : {m : Machine} {ram l : List ℕ} → Kept m ram l → 4096 * m .frames ≡ length (ramOf m ram)
+pub ram-part : {m : Machine} {ram l : List ℕ} → Kept m ram l → 4096 * m .frames ≡ length (ram-of m ram)
 ram-part {m} {ram} k = sym (length-take-le (4096 * m .frames) ram (k .within))
 
 -- of a machine that is ready: the ledger has a row for each of its frames, and is in the lent slice
 module _ {m : Machine} {ram l : List ℕ} (k : Kept m ram l) (h : m .ready ≡ true) where
-  pub size-is : size-of (ledgerOf m l) ≡ m .frames
+  pub size-is : size-of (ledger-of m l) ≡ m .frames
   size-is =
-      let a : length (ramOf m ram) ≡ size-of (ledgerOf m l) * 4096 = k .sound h .ram-fits in
+      let a : length (ram-of m ram) ≡ size-of (ledger-of m l) * 4096 = k .sound h .ram-fits in
       let b = length-take-le (4096 * m .frames) ram (k .within) in
       omega arith
 
   pub ledger-within : words-for (m .frames) ≤ length l
   ledger-within = elim (lt? (length l) (words-for (m .frames))) [
     | inl s ↦
-        let a : length (ledgerOf m l) ≡ words-for (size-of (ledgerOf m l)) = k .sound h .stock .length-fits in
+        let a : length (ledger-of m l) ≡ words-for (size-of (ledger-of m l)) = k .sound h .ledger-sound .length-fits in
         let b = ap (λ (x : List ℕ). length x) (take-all (words-for (m .frames)) l (omega arith)) in
         let c = size-is in
         omega arith
     | inr s ↦ s
   ]
 
-  pub ledger-part : words-for (m .frames) ≡ length (ledgerOf m l)
+  pub ledger-part : words-for (m .frames) ≡ length (ledger-of m l)
   ledger-part = sym (length-take-le (words-for (m .frames)) l ledger-within)
 
 -- before a `setup` there is nothing to count on
@@ -88,10 +88,10 @@ module _ (m : Machine) (r : Outcome) where
 
   said-told : (ram l : List ℕ) (q : Question) → Tellable m (said q m ram l)
   unfolding translation
-  said-told ram l (PeekWord a) = found (inRam m a) (wordAt ram (a - m .base))
+  said-told ram l (PeekWord a) = found (word-in-ram m a) (word-at ram (a - m .base))
   said-told ram l (WalkOne root ipa access) = tt
   said-told ram l (WalkBoth root1 root2 va access el) = tt
-  said-told ram l (Translate g ipa access) = ready-told _ (λ _. reached (exists-of (ledgerOf m l) g) _)
+  said-told ram l (Translate g ipa access) = ready-told _ (λ _. reached (exists-of (ledger-of m l) g) _)
   said-told ram l (AskFrame f) = ready-told (Frame f) (λ h. h)
   said-told ram l (AskGuest g) = ready-told (Guest _) (λ _. tt)
   said-told ram l AskLedger = ready-told Ledger (λ h. h)
@@ -110,8 +110,8 @@ module _ (m : Machine) (r : Outcome) where
     operates false o x = rw (x .0) tt
 
     does-tell : (c : Command) → Does c m ram l ram′ l′ r → Tellable (r .machine) (r .reply)
-    does-tell (SetUp n b k) x = begins (allowedOf (length ram / 4096) (length l) n b k) n b k x
-    does-tell (StoreWord a v) x = writes (inRam m a) a v x
+    does-tell (SetUp n b k) x = begins (allowed-of (length ram / 4096) (length l) n b k) n b k x
+    does-tell (StoreWord a v) x = writes (word-in-ram m a) a v x
     does-tell (Operate o) x = operates (m .ready) o x
     does-tell (Ask q) x = tells _ (said-told ram l q) (x .0)
 

@@ -5,7 +5,7 @@ ghost use Rattle.ledger.specs.Layout.{exists-of, state-of};
 ghost use Rattle.ledger.specs.Sound.{Sound};
 ghost use Rattle.monitor_query.specs.Questions.{guest-told, translated};
 ghost use Rattle.script_machine.specs.declared.Reply.the-variants.{Code, Walked, Guest};
-ghost use Rattle.script_machine.specs.Machine.{Within, Kept, ramOf, ledgerOf, walkedOne, walkedBoth, translation as translation·of, told, said};
+ghost use Rattle.script_machine.specs.Machine.{Within, Kept, ram-of, ledger-of, walked-one, walked-both, translation as translation·of, told, said};
 use super::Machine;
 use super::Reply;
 use super::words::peek_word;
@@ -14,7 +14,7 @@ use script_language::Question;
 
 fn walk_one(m: Machine, ram: &[u8], root: u64, ipa: u64, access: u64) -> Reply
     requires { ⌜ Within m (now ram) ⌝ }
-    ensures { λ r. ⌜ r ≡ walkedOne m (now (ram .entry)) root ipa access ⌝ }
+    ensures { λ r. ⌜ r ≡ walked-one m (now (ram .entry)) root ipa access ⌝ }
 {
     let n = (4096 * m.frames) as usize;
     Reply::Walked(walk::stage2(&ram[..n], m.base, m.frames, root, ipa, access))
@@ -22,7 +22,7 @@ fn walk_one(m: Machine, ram: &[u8], root: u64, ipa: u64, access: u64) -> Reply
 
 fn walk_both(m: Machine, ram: &[u8], root1: u64, root2: u64, va: u64, access: u64, el: u64) -> Reply
     requires { ⌜ Within m (now ram) ⌝ }
-    ensures { λ r. ⌜ r ≡ walkedBoth m (now (ram .entry)) root1 root2 va access el ⌝ }
+    ensures { λ r. ⌜ r ≡ walked-both m (now (ram .entry)) root1 root2 va access el ⌝ }
 {
     let n = (4096 * m.frames) as usize;
     Reply::Walked(walk::both_stages(&ram[..n], m.base, m.frames, root1, root2, va, access, el))
@@ -52,7 +52,7 @@ fn translate(m: Machine, ram: &[u8], ledger: &[u32], g: u64, ipa: u64, access: u
 
 fn what_guest(m: Machine, ram: &[u8], ledger: &[u32], g: u64) -> Reply
     requires { ⌜ Kept m (now ram) (now ledger) ⌝ }
-    ensures { λ r. ⌜ r ≡ told m (Guest (guest-told (state-of (ramOf m (now (ram .entry))) (ledgerOf m (now (ledger .entry)))) g)) ⌝ }
+    ensures { λ r. ⌜ r ≡ told m (Guest (guest-told (state-of (ram-of m (now (ram .entry))) (ledger-of m (now (ledger .entry)))) g)) ⌝ }
 {
     if m.ready {
         let n = (4096 * m.frames) as usize;

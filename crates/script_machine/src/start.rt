@@ -1,14 +1,14 @@
 // `setup`: RAM is cleared, and the monitor's set-up lays out the ledger.
 ghost use mathlib.Core.Path.{_≡_};
 ghost use Rattle.script_language.specs.declared.Command.the-variants.{SetUp};
-ghost use Rattle.script_machine.specs.Machine.{Kept, allowedOf, Executed};
+ghost use Rattle.script_machine.specs.Machine.{Kept, allowed-of, Executed};
 use super::Machine;
 use super::Outcome;
 use super::Reply;
 
 // Document 01, section 1, and no more frames and words of a ledger than the slices have.
 fn allowed(lent: u64, words: u64, frames: u64, base: u64, monitor: u64) -> bool
-    ensures { λ r. ⌜ r ≡ allowedOf lent words frames base monitor ⌝ }
+    ensures { λ r. ⌜ r ≡ allowed-of lent words frames base monitor ⌝ }
 {
     if frames < 16 {
         return false;

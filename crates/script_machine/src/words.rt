@@ -4,9 +4,9 @@ ghost use mathlib.Core.Bool.{true, not, _&&_, _||_};
 ghost use Prim.Native.Nat.{_+_, _*_, _/_, _^_, _<_, _≤_};
 ghost use Rattle.model.specs.State.{tabled};
 ghost use Rattle.ledger.specs.Layout.{size-of, kind-of};
-ghost use Rattle.ledger.specs.Stock.{Stock};
+ghost use Rattle.ledger.specs.LedgerSound.{Ledger-sound};
 ghost use Rattle.script_language.specs.declared.Command.the-variants.{StoreWord};
-ghost use Rattle.script_machine.specs.Machine.{Within, Kept, inRam, inTable, peeked, Executed};
+ghost use Rattle.script_machine.specs.Machine.{Within, Kept, word-in-ram, word-in-table, peeked, Executed};
 use super::Machine;
 use super::Outcome;
 use super::Reply;
@@ -15,7 +15,7 @@ use ledger::frame;
 // Are the eight bytes at physical address a all in RAM?
 fn in_ram(m: Machine, a: u64) -> bool
     requires { ⌜ 4096 * m .frames < 2 ^ 64 ⌝ }
-    ensures { λ r. ⌜ r ≡ inRam m a ⌝ }
+    ensures { λ r. ⌜ r ≡ word-in-ram m a ⌝ }
 {
     let size = 4096 * m.frames;
     if a < m.base {
@@ -31,7 +31,7 @@ fn in_ram(m: Machine, a: u64) -> bool
 }
 
 fn holds_table(ledger: &[u32], f: u64) -> bool
-    requires { ⌜ Stock (now ledger) ⌝ }
+    requires { ⌜ Ledger-sound (now ledger) ⌝ }
     requires { ⌜ f < size-of (now ledger) ⌝ }
     ensures { λ r. ⌜ r ≡ tabled (kind-of (now (ledger .entry)) f) ⌝ }
 {
@@ -44,7 +44,7 @@ fn holds_table(ledger: &[u32], f: u64) -> bool
 
 // A word may lie in two frames.
 fn in_table(ledger: &[u32], at: u64) -> bool
-    requires { ⌜ Stock (now ledger) ⌝ }
+    requires { ⌜ Ledger-sound (now ledger) ⌝ }
     requires { ⌜ (at + 8 ≤ size-of (now ledger) * 4096) × (at + 8 < 2 ^ 64) ⌝ }
     ensures { λ r. ⌜ r ≡ (tabled (kind-of (now (ledger .entry)) (at / 4096)) || tabled (kind-of (now (ledger .entry)) ((at + 7) / 4096))) ⌝ }
 {
@@ -57,8 +57,8 @@ fn in_table(ledger: &[u32], at: u64) -> bool
 // Is the machine ready when a word has been written at physical address a?
 fn stays_ready(m: Machine, ram: &[u8], ledger: &[u32], a: u64) -> bool
     requires { ⌜ Kept m (now ram) (now ledger) ⌝ }
-    requires { ⌜ inRam m a ≡ true ⌝ }
-    ensures { λ r. ⌜ r ≡ (m .ready && not (inTable m (now (ledger .entry)) a)) ⌝ }
+    requires { ⌜ word-in-ram m a ≡ true ⌝ }
+    ensures { λ r. ⌜ r ≡ (m .ready && not (word-in-table m (now (ledger .entry)) a)) ⌝ }
 {
     if m.ready {
         let w = (144 + 16 * m.frames) as usize;

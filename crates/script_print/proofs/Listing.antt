@@ -1,22 +1,22 @@
 -- A list of guests, guest by guest, and the ledger, line by line.
-use Prim.Native.Nat.{ℕ, zero, suc, _+_, _*_, _/_, _≤_, _<_}
+use Prim.Native.Nat.{ℕ, suc, _+_, _*_, _/_, _≤_, _<_}
 use mathlib.Core.Path.{_≡_, refl, sym, ap, subst, _∙_}
 use mathlib.Core.Bool.{Bool, true, false, cond}
-use mathlib.Core.List.{List, [], _∷_, _++_, append-nil}
+use mathlib.Core.List.{List, [], _∷_, append-nil}
 use mathlib.Core.Logic.{inl, inr}
 use native.Mathlib.Numerals.{add-one}
 use native.Mathlib.Nat.{add-zero}
 use native.Mathlib.Omega.{arith}
-use lib.Dec.{eqb, leb}
+use lib.Dec.{eqb}
 use lib.ListN.{length, take}
 use borrow.Author.Tests.{le-leb, lt-leb, eq-eqb, ne-eqb}
-use Rattle.model.specs.Base.{eq?}
+use Rattle.model.proofs.Laws.Base.{eq?}
 use Rattle.model.specs.State.{State, guests}
 use Rattle.script_text.specs.Text.{ascii}
-use Rattle.script_text.specs.Digits.{decimalOf, numeralOf, digits, stripped, glyphOf}
+use Rattle.script_text.specs.Digits.{decimal-of, numeral-of, digits, stripped, glyph-of}
 use Rattle.script_text.specs.Wrote.{Wrote}
 use Rattle.script_text.proofs.Printing.{wrote-then, wrote-within}
-use Rattle.script_print.specs.Frame.{memberText, listTo, listText, lineText, linesTo, ledgerText}
+use Rattle.script_print.specs.Frame.{member-text, list-to, list-text, line-text, lines-to, ledger-text}
 
 pub wrote-nothing : {b : ℕ} {m : List ℕ} {at : ℕ} → Wrote b m at m at []
 wrote-nothing {b} {m} {at} = record { near = omega arith; next = sym (add-zero at); there = sym (append-nil (take at m)) }
@@ -26,12 +26,12 @@ pub wrote-short : {a b : ℕ} {m l : List ℕ} {at r : ℕ} {s t : List ℕ} →
 wrote-short {a} {b} w e h = let w2 = w .next in record { near = omega (arith, ap length e); next = rw (← e) (w .next); there = rw (← e) (w .there) }
 
 -- a number below ten has one digit
-one-digit : (g : ℕ) → g < 10 → length (decimalOf g) ≡ 1
-unfolding decimalOf numeralOf digits stripped glyphOf
+one-digit : (g : ℕ) → g < 10 → length (decimal-of g) ≡ 1
+unfolding decimal-of numeral-of digits stripped glyph-of
 one-digit g h = let z : g / 10 ≡ 0 = omega arith in rw z refl
 
-pub member-short : (first : Bool) (g : ℕ) → g < 10 → length (memberText first g) ≤ 2
-unfolding memberText
+pub member-short : (first : Bool) (g : ℕ) → g < 10 → length (member-text first g) ≤ 2
+unfolding member-text
 member-short true g h = omega (arith, one-digit g h)
 member-short false g h = omega (arith, one-digit g h)
 
@@ -42,8 +42,8 @@ first-here at n next e = elim (eq? n 0) [
   | inr z ↦ ne-eqb next at (λ q. z (omega arith)) ∙ sym (ne-eqb n 0 z)
 ]
 
-pub list-none : (least : ℕ) (shares : ℕ → ℕ) {m : List ℕ} {at : ℕ} → Wrote (2 * 0) m at m at (listTo least shares 0)
-unfolding listTo
+pub list-none : (least : ℕ) (shares : ℕ → ℕ) {m : List ℕ} {at : ℕ} → Wrote (2 * 0) m at m at (list-to least shares 0)
+unfolding list-to
 list-none least shares = wrote-nothing
 
 no-text : (l : List ℕ) → length l ≡ 0 → l ≡ []
@@ -51,49 +51,49 @@ no-text [] e = refl
 no-text (x ∷ l) e = absurd (omega arith)
 
 -- After g turns the guests 1 to g are told.
-module _ (least : ℕ) (shares : ℕ → ℕ) {m l : List ℕ} {at next : ℕ} (g : ℕ) (w : Wrote (2 * g) m at l next (listTo least shares g)) where
-  pub list-passed : {x : ℕ} → x ≡ shares (g + 1) → x < least → Wrote (2 * (g + 1)) m at l next (listTo least shares (g + 1))
-  unfolding listTo
+module _ (least : ℕ) (shares : ℕ → ℕ) {m l : List ℕ} {at next : ℕ} (g : ℕ) (w : Wrote (2 * g) m at l next (list-to least shares g)) where
+  pub list-passed : {x : ℕ} → x ≡ shares (g + 1) → x < least → Wrote (2 * (g + 1)) m at l next (list-to least shares (g + 1))
+  unfolding list-to
   list-passed {x} e h = wrote-within w (omega arith) (rw (add-one g, lt-leb least (shares (suc g)) (passed h)))
     where
       passed : x < least → shares (suc g) < least
       passed h = subst (λ (k : ℕ). k < least) (e ∙ ap shares (add-one g)) h
 
-  pub list-more : {x : ℕ} {k : List ℕ} {r : ℕ} → x ≡ shares (g + 1) → least ≤ x → Wrote 2 l next k r (memberText (eqb next at) (g + 1)) →
-      Wrote (2 * (g + 1)) m at k r (listTo least shares (g + 1))
-  unfolding listTo
+  pub list-more : {x : ℕ} {k : List ℕ} {r : ℕ} → x ≡ shares (g + 1) → least ≤ x → Wrote 2 l next k r (member-text (eqb next at) (g + 1)) →
+      Wrote (2 * (g + 1)) m at k r (list-to least shares (g + 1))
+  unfolding list-to
   list-more {x} e h v = wrote-within (wrote-then w v) (omega arith) (rw (add-one g, le-leb least (shares (suc g)) (listed h), first-here at _ next (w .next)))
     where
       listed : least ≤ x → least ≤ shares (suc g)
       listed h = subst (λ (k : ℕ). least ≤ k) (e ∙ ap shares (add-one g)) h
 
-  pub list-empty : {k : List ℕ} {r : ℕ} → g ≤ guests → guests ≤ g → next ≡ at → Wrote 1 l at k r (ascii "-") → Wrote (2 * guests) m at k r (listText least shares)
-  unfolding listText
+  pub list-empty : {k : List ℕ} {r : ℕ} → g ≤ guests → guests ≤ g → next ≡ at → Wrote 1 l at k r (ascii "-") → Wrote (2 * guests) m at k r (list-text least shares)
+  unfolding list-text
   list-empty {k} {r} a b e v =
       let w2 = w .next in
-      let n : length (listTo least shares g) ≡ 0 = omega arith in
-      wrote-within (wrote-then (wrote-short {b = 0} w (no-text (listTo least shares g) n) (omega arith)) (subst (λ (i : ℕ). Wrote 1 l i k r (ascii "-")) (sym e) v)) (omega arith) (text (omega arith) n)
+      let n : length (list-to least shares g) ≡ 0 = omega arith in
+      wrote-within (wrote-then (wrote-short {b = 0} w (no-text (list-to least shares g) n) (omega arith)) (subst (λ (i : ℕ). Wrote 1 l i k r (ascii "-")) (sym e) v)) (omega arith) (text (omega arith) n)
     where
-      text : g ≡ guests → length (listTo least shares g) ≡ 0 → ascii "-" ≡ cond (eqb (length (listTo least shares guests)) 0) (ascii "-") (listTo least shares guests)
-      text q n = rw (sym q, eq-eqb (length (listTo least shares g)) 0 n)
+      text : g ≡ guests → length (list-to least shares g) ≡ 0 → ascii "-" ≡ cond (eqb (length (list-to least shares guests)) 0) (ascii "-") (list-to least shares guests)
+      text q n = rw (sym q, eq-eqb (length (list-to least shares g)) 0 n)
 
-  pub list-full : g ≤ guests → guests ≤ g → (next ≡ at → ⊥) → Wrote (2 * guests) m at l next (listText least shares)
-  unfolding listText
+  pub list-full : g ≤ guests → guests ≤ g → (next ≡ at → ⊥) → Wrote (2 * guests) m at l next (list-text least shares)
+  unfolding list-text
   list-full a b e = wrote-within w (omega arith) (text (omega arith) (λ n. let w2 = w .next in e (omega arith)))
     where
-      text : g ≡ guests → (length (listTo least shares g) ≡ 0 → ⊥) → listTo least shares g ≡ cond (eqb (length (listTo least shares guests)) 0) (ascii "-") (listTo least shares guests)
-      text q n = rw (sym q, ne-eqb (length (listTo least shares g)) 0 n)
+      text : g ≡ guests → (length (list-to least shares g) ≡ 0 → ⊥) → list-to least shares g ≡ cond (eqb (length (list-to least shares guests)) 0) (ascii "-") (list-to least shares guests)
+      text q n = rw (sym q, ne-eqb (length (list-to least shares g)) 0 n)
 
 -- After f turns the frames 0 to f - 1 are told.
-pub lines-none : (s : State) {m : List ℕ} {at : ℕ} → Wrote (160 * 0) m at m at (linesTo s 0)
-unfolding linesTo
+pub lines-none : (s : State) {m : List ℕ} {at : ℕ} → Wrote (160 * 0) m at m at (lines-to s 0)
+unfolding lines-to
 lines-none s = wrote-nothing
 
-pub lines-more : (s : State) {m l k : List ℕ} {at next r : ℕ} (f : ℕ) → Wrote (160 * f) m at l next (linesTo s f) → Wrote 160 l next k r (lineText s f) →
-    Wrote (160 * (f + 1)) m at k r (linesTo s (f + 1))
-unfolding linesTo
+pub lines-more : (s : State) {m l k : List ℕ} {at next r : ℕ} (f : ℕ) → Wrote (160 * f) m at l next (lines-to s f) → Wrote 160 l next k r (line-text s f) →
+    Wrote (160 * (f + 1)) m at k r (lines-to s (f + 1))
+unfolding lines-to
 lines-more s f w v = wrote-within (wrote-then w v) (omega arith) (rw (add-one f))
 
-pub lines-all : (s : State) {m l : List ℕ} {at next : ℕ} (f : ℕ) → f ≡ s .size → Wrote (160 * f) m at l next (linesTo s f) → Wrote (160 * s .size) m at l next (ledgerText s)
-unfolding ledgerText
-lines-all s f e w = wrote-within w (omega arith) (ap (linesTo s) e)
+pub lines-all : (s : State) {m l : List ℕ} {at next : ℕ} (f : ℕ) → f ≡ s .size → Wrote (160 * f) m at l next (lines-to s f) → Wrote (160 * s .size) m at l next (ledger-text s)
+unfolding ledger-text
+lines-all s f e w = wrote-within w (omega arith) (ap (lines-to s) e)

@@ -9,49 +9,49 @@ use Rattle.monitor_query.specs.declared.FrameKind.{FrameKind}
 use Rattle.monitor_query.specs.declared.FrameKind.the-variants.{Outside, Monitor, Free, Table, Draining, Page}
 use Rattle.monitor_query.specs.Questions.{frame-told, share-told}
 use Rattle.script_text.specs.Text.{ascii}
-use Rattle.script_text.specs.Digits.{decimalOf}
+use Rattle.script_text.specs.Digits.{decimal-of}
 
 abbrev pub empty : List ℕ → Bool
 empty l = eqb (length l) 0
 
 -- "separated by commas": one before each guest but the first
-unfoldable pub memberText : (first : Bool) (g : ℕ) → List ℕ
-memberText first g = cond first [] (ascii ",") ++ decimalOf g
+unfoldable pub member-text : (first : Bool) (g : ℕ) → List ℕ
+member-text first g = cond first [] (ascii ",") ++ decimal-of g
 
 -- "the guests in rising order": of 1 to g, those that `least` or more is shared with
-unfoldable pub listTo : (least : ℕ) (shares : ℕ → ℕ) (g : ℕ) → List ℕ
-listTo least shares zero = []
-listTo least shares (suc g) =
-    cond (leb least (shares (suc g))) (listTo least shares g ++ memberText (empty (listTo least shares g)) (suc g)) (listTo least shares g)
+unfoldable pub list-to : (least : ℕ) (shares : ℕ → ℕ) (g : ℕ) → List ℕ
+list-to least shares zero = []
+list-to least shares (suc g) =
+    cond (leb least (shares (suc g))) (list-to least shares g ++ member-text (empty (list-to least shares g)) (suc g)) (list-to least shares g)
 
 -- "or `-` for none"
-unfoldable pub listText : (least : ℕ) (shares : ℕ → ℕ) → List ℕ
-listText least shares = cond (empty (listTo least shares guests)) (ascii "-") (listTo least shares guests)
+unfoldable pub list-text : (least : ℕ) (shares : ℕ → ℕ) → List ℕ
+list-text least shares = cond (empty (list-to least shares guests)) (ascii "-") (list-to least shares guests)
 
 -- "`page G readers L writers L mapped N`": what is shared is 1 for reading, and 2 for writing too
-unfoldable pub pageText : (owner : ℕ) (shares : ℕ → ℕ) (mapped : ℕ) → List ℕ
-pageText owner shares mapped =
-    (ascii "page " ++ decimalOf owner) ++ ascii " readers " ++ listText 1 shares ++ ascii " writers " ++ listText 2 shares ++ (ascii " mapped " ++ decimalOf mapped)
+unfoldable pub page-text : (owner : ℕ) (shares : ℕ → ℕ) (mapped : ℕ) → List ℕ
+page-text owner shares mapped =
+    (ascii "page " ++ decimal-of owner) ++ ascii " readers " ++ list-text 1 shares ++ ascii " writers " ++ list-text 2 shares ++ (ascii " mapped " ++ decimal-of mapped)
 
-unfoldable pub toldText : FrameKind → (shares : ℕ → ℕ) → List ℕ
-toldText Outside shares = ascii "4"
-toldText Monitor shares = ascii "monitor"
-toldText Free shares = ascii "free"
-toldText (Table g) shares = ascii "table " ++ decimalOf g
-toldText (Draining g) shares = ascii "draining " ++ decimalOf g
-toldText (Page g n) shares = pageText g shares n
+unfoldable pub told-text : FrameKind → (shares : ℕ → ℕ) → List ℕ
+told-text Outside shares = ascii "4"
+told-text Monitor shares = ascii "monitor"
+told-text Free shares = ascii "free"
+told-text (Table g) shares = ascii "table " ++ decimal-of g
+told-text (Draining g) shares = ascii "draining " ++ decimal-of g
+told-text (Page g n) shares = page-text g shares n
 
-unfoldable pub frameText : State → (f : ℕ) → List ℕ
-frameText s f = toldText (frame-told s f) (share-told s f)
+unfoldable pub frame-text : State → (f : ℕ) → List ℕ
+frame-text s f = told-text (frame-told s f) (share-told s f)
 
 -- "a line for each frame: its number, a space, what `frame` prints"
-unfoldable pub lineText : State → (f : ℕ) → List ℕ
-lineText s f = decimalOf f ++ ascii " " ++ frameText s f ++ ascii "\n"
+unfoldable pub line-text : State → (f : ℕ) → List ℕ
+line-text s f = decimal-of f ++ ascii " " ++ frame-text s f ++ ascii "\n"
 
 -- the lines of frames 0 to n - 1
-unfoldable pub linesTo : State → (n : ℕ) → List ℕ
-linesTo s zero = []
-linesTo s (suc n) = linesTo s n ++ lineText s n
+unfoldable pub lines-to : State → (n : ℕ) → List ℕ
+lines-to s zero = []
+lines-to s (suc n) = lines-to s n ++ line-text s n
 
-unfoldable pub ledgerText : State → List ℕ
-ledgerText s = linesTo s (s .size)
+unfoldable pub ledger-text : State → List ℕ
+ledger-text s = lines-to s (s .size)

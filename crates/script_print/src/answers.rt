@@ -2,12 +2,12 @@
 ghost use Prim.Native.Nat.{_+_, _≤_};
 ghost use lib.ListN.{length, take};
 ghost use Rattle.script_text.specs.Wrote.{Wrote};
-ghost use Rattle.script_print.specs.Answer.{Says, kindText, faultText, fetchedText, duringText, answerText};
+ghost use Rattle.script_print.specs.Answer.{Says, text-of-kind, fault-text, fetched-text, during-text, answer-text};
 use script_text::digits::put;
 use script_text::digits::put_field;
 use script_text::digits::put_hex;
 use walk::Answer;
-use walk::Kind;
+use walk::FaultKind;
 
 // A text of at most 20 bytes: the first ones.
 pub struct Text {
@@ -25,27 +25,27 @@ const ACCESS_FLAG: [u8; 20] = *b"ACCESS_FLAG         ";
 
 const PERMISSION: [u8; 20] = *b"PERMISSION          ";
 
-fn kind_text(k: Kind) -> Text
-    ensures { λ r. ⌜ Says r (kindText k) ⌝ }
+fn kind_text(k: FaultKind) -> Text
+    ensures { λ r. ⌜ Says r (text-of-kind k) ⌝ }
 {
     match k {
-        Kind::WalkAbort => Text {
+        FaultKind::WalkAbort => Text {
             bytes: WALK_ABORT,
             length: 10,
         },
-        Kind::Translation => Text {
+        FaultKind::Translation => Text {
             bytes: TRANSLATION,
             length: 11,
         },
-        Kind::NotModelled => Text {
+        FaultKind::NotModelled => Text {
             bytes: NOT_MODELLED,
             length: 12,
         },
-        Kind::AccessFlag => Text {
+        FaultKind::AccessFlag => Text {
             bytes: ACCESS_FLAG,
             length: 11,
         },
-        Kind::Permission => Text {
+        FaultKind::Permission => Text {
             bytes: PERMISSION,
             length: 10,
         },
@@ -61,9 +61,9 @@ pub fn put_text(out: &mut [u8], at: usize, t: Text) -> usize
     put(out, at, &bytes[..n])
 }
 
-fn put_fault(out: &mut [u8], at: usize, k: Kind, stage: u64, level: u64) -> usize
+fn put_fault(out: &mut [u8], at: usize, k: FaultKind, stage: u64, level: u64) -> usize
     requires { ⌜ at + 74 ≤ length (now out) ⌝ }
-    ensures { λ r. ⌜ Wrote 74 (now (out .entry)) at (now (out .exit)) r (faultText k stage level) ⌝ }
+    ensures { λ r. ⌜ Wrote 74 (now (out .entry)) at (now (out .exit)) r (fault-text k stage level) ⌝ }
 {
     let a = put_text(out, at, kind_text(k));
     let b = put_field(out, a, b" stage ", stage);
@@ -72,15 +72,15 @@ fn put_fault(out: &mut [u8], at: usize, k: Kind, stage: u64, level: u64) -> usiz
 
 fn put_fetched(out: &mut [u8], at: usize, fetched: u64) -> usize
     requires { ⌜ at + 29 ≤ length (now out) ⌝ }
-    ensures { λ r. ⌜ Wrote 29 (now (out .entry)) at (now (out .exit)) r (fetchedText fetched) ⌝ }
+    ensures { λ r. ⌜ Wrote 29 (now (out .entry)) at (now (out .exit)) r (fetched-text fetched) ⌝ }
 {
     put_field(out, at, b" fetched ", fetched)
 }
 
 // A fault of stage 2 while stage 1 was at level `of`.
-fn put_during(out: &mut [u8], at: usize, k: Kind, level: u64, of: u64) -> usize
+fn put_during(out: &mut [u8], at: usize, k: FaultKind, level: u64, of: u64) -> usize
     requires { ⌜ at + 116 ≤ length (now out) ⌝ }
-    ensures { λ r. ⌜ Wrote 116 (now (out .entry)) at (now (out .exit)) r (duringText k level of) ⌝ }
+    ensures { λ r. ⌜ Wrote 116 (now (out .entry)) at (now (out .exit)) r (during-text k level of) ⌝ }
 {
     let next = put_fault(out, at, k, 2, level);
     put_field(out, next, b" during stage 1 level ", of)
@@ -88,7 +88,7 @@ fn put_during(out: &mut [u8], at: usize, k: Kind, level: u64, of: u64) -> usize
 
 pub fn put_answer(out: &mut [u8], at: usize, a: Answer) -> usize
     requires { ⌜ at + 145 ≤ length (now out) ⌝ }
-    ensures { λ r. ⌜ Wrote 145 (now (out .entry)) at (now (out .exit)) r (answerText a) ⌝ }
+    ensures { λ r. ⌜ Wrote 145 (now (out .entry)) at (now (out .exit)) r (answer-text a) ⌝ }
 {
     match a {
         Answer::Found { address, fetched } => {

@@ -6,7 +6,7 @@ ghost use Rattle.model.specs.State.{guests};
 ghost use Rattle.ledger.specs.Layout.{size-of, state-of};
 ghost use Rattle.ledger.specs.Sound.{Sound};
 ghost use Rattle.monitor_query.specs.Questions.{share-told};
-ghost use Rattle.script_print.specs.Frame.{memberText, listText, pageText, frameText, lineText, ledgerText};
+ghost use Rattle.script_print.specs.Frame.{member-text, list-text, page-text, frame-text, line-text, ledger-text};
 use ledger::header;
 use monitor_query::FrameKind;
 use monitor_query::shared_with;
@@ -18,7 +18,7 @@ use script_text::digits::put_field;
 // Guest g in a list; its number has one digit.
 fn put_member(out: &mut [u8], at: usize, first: bool, g: u64) -> usize
     requires { ⌜ (at + 21 ≤ length (now out)) × (g < 10) ⌝ }
-    ensures { λ r. ⌜ Wrote 2 (now (out .entry)) at (now (out .exit)) r (memberText first g) ⌝ }
+    ensures { λ r. ⌜ Wrote 2 (now (out .entry)) at (now (out .exit)) r (member-text first g) ⌝ }
 {
     if first {
         return put_decimal(out, at, g);
@@ -30,7 +30,7 @@ fn put_member(out: &mut [u8], at: usize, first: bool, g: u64) -> usize
 fn put_list(out: &mut [u8], at: usize, ram: &[u8], ledger: &[u32], f: u64, least: u64) -> usize
     requires { ⌜ Sound (now ram) (now ledger) ⌝ }
     requires { ⌜ at + 2 * guests + 20 ≤ length (now out) ⌝ }
-    ensures { λ r. ⌜ Wrote (2 * guests) (now (out .entry)) at (now (out .exit)) r (listText least (share-told (state-of (now (ram .entry)) (now (ledger .entry))) f)) ⌝ }
+    ensures { λ r. ⌜ Wrote (2 * guests) (now (out .entry)) at (now (out .exit)) r (list-text least (share-told (state-of (now (ram .entry)) (now (ledger .entry))) f)) ⌝ }
 {
     let mut next = at;
     let mut g: u64 = 0;
@@ -58,7 +58,7 @@ fn put_page(
 ) -> usize
     requires { ⌜ Sound (now ram) (now ledger) ⌝ }
     requires { ⌜ at + 128 ≤ length (now out) ⌝ }
-    ensures { λ r. ⌜ Wrote 128 (now (out .entry)) at (now (out .exit)) r (pageText owner (share-told (state-of (now (ram .entry)) (now (ledger .entry))) f) mapped) ⌝ }
+    ensures { λ r. ⌜ Wrote 128 (now (out .entry)) at (now (out .exit)) r (page-text owner (share-told (state-of (now (ram .entry)) (now (ledger .entry))) f) mapped) ⌝ }
 {
     let owned = put_field(out, at, b"page ", owner);
     let readers = put(out, owned, b" readers ");
@@ -72,7 +72,7 @@ fn put_page(
 pub fn put_frame(out: &mut [u8], at: usize, ram: &[u8], ledger: &[u32], f: u64) -> usize
     requires { ⌜ Sound (now ram) (now ledger) ⌝ }
     requires { ⌜ at + 128 ≤ length (now out) ⌝ }
-    ensures { λ r. ⌜ Wrote 128 (now (out .entry)) at (now (out .exit)) r (frameText (state-of (now (ram .entry)) (now (ledger .entry))) f) ⌝ }
+    ensures { λ r. ⌜ Wrote 128 (now (out .entry)) at (now (out .exit)) r (frame-text (state-of (now (ram .entry)) (now (ledger .entry))) f) ⌝ }
 {
     match what_frame(ram, ledger, f) {
         FrameKind::Outside => put(out, at, b"4"),
@@ -87,7 +87,7 @@ pub fn put_frame(out: &mut [u8], at: usize, ram: &[u8], ledger: &[u32], f: u64) 
 fn put_line(out: &mut [u8], at: usize, ram: &[u8], ledger: &[u32], f: u64) -> usize
     requires { ⌜ Sound (now ram) (now ledger) ⌝ }
     requires { ⌜ at + 160 ≤ length (now out) ⌝ }
-    ensures { λ r. ⌜ Wrote 160 (now (out .entry)) at (now (out .exit)) r (lineText (state-of (now (ram .entry)) (now (ledger .entry))) f) ⌝ }
+    ensures { λ r. ⌜ Wrote 160 (now (out .entry)) at (now (out .exit)) r (line-text (state-of (now (ram .entry)) (now (ledger .entry))) f) ⌝ }
 {
     let numbered = put_decimal(out, at, f);
     let next = put(out, numbered, b" ");
@@ -99,7 +99,7 @@ fn put_line(out: &mut [u8], at: usize, ram: &[u8], ledger: &[u32], f: u64) -> us
 pub fn put_ledger(out: &mut [u8], at: usize, ram: &[u8], ledger: &[u32]) -> usize
     requires { ⌜ Sound (now ram) (now ledger) ⌝ }
     requires { ⌜ at + 160 * size-of (now ledger) ≤ length (now out) ⌝ }
-    ensures { λ r. ⌜ Wrote (160 * size-of (now (ledger .entry))) (now (out .entry)) at (now (out .exit)) r (ledgerText (state-of (now (ram .entry)) (now (ledger .entry)))) ⌝ }
+    ensures { λ r. ⌜ Wrote (160 * size-of (now (ledger .entry))) (now (out .entry)) at (now (out .exit)) r (ledger-text (state-of (now (ram .entry)) (now (ledger .entry)))) ⌝ }
 {
     let n = header::size(ledger);
     let mut next = at;

@@ -10,7 +10,7 @@ use lib.Dec.{eqb}
 use lib.ListN.{length, getD, set, take, drop, length-append, length-drop, length-take, length-set, drop-of-length-le}
 use lib.Seq.{drop-cons, take-suc, take-suc-set, take-length, take-all, drop-length, set-split, drop-at, length-take-le}
 use borrow.Author.Tests.{eq-eqb, ne-eqb}
-use Rattle.script_text.specs.Digits.{glyphOf, digits, stripped}
+use Rattle.script_text.specs.Digits.{glyph-of, digits, stripped}
 use Rattle.script_text.specs.Wrote.{Wrote}
 
 -- one text after another
@@ -54,13 +54,13 @@ pub spell-none : (out : List ℕ) (b n : ℕ) → digits b (length out) n ≡ di
 spell-none out b n = rw drop-length (sym (append-nil (digits b (length out) n)))
 
 spell-step : (out : List ℕ) (b j n : ℕ) → j < length out
-    → digits b (suc j) n ++ drop (suc j) out ≡ digits b j (n / b) ++ drop j (set out j (glyphOf (n % b)))
+    → digits b (suc j) n ++ drop (suc j) out ≡ digits b j (n / b) ++ drop j (set out j (glyph-of (n % b)))
 unfolding digits
 spell-step out b j n h =
-    rw (set-split out j (glyphOf (n % b)) h, drop-at (take j out) (glyphOf (n % b) ∷ drop (suc j) out) j (length-take-le j out (omega arith)), append-assoc)
+    rw (set-split out j (glyph-of (n % b)) h, drop-at (take j out) (glyph-of (n % b) ∷ drop (suc j) out) j (length-take-le j out (omega arith)), append-assoc)
 
 pub spell-more : {all : List ℕ} (out : List ℕ) (b i n : ℕ) → 0 < i → i ≤ length out → all ≡ digits b i n ++ drop i out
-    → all ≡ digits b (i - 1) (n / b) ++ drop (i - 1) (set out (i - 1) (glyphOf (n % b)))
+    → all ≡ digits b (i - 1) (n / b) ++ drop (i - 1) (set out (i - 1) (glyph-of (n % b)))
 spell-more out b zero n p h e = absurd (not-suc-le-zero p)
 spell-more out b (suc j) n p h e =
     let n : suc j - 1 ≡ j = omega arith in

@@ -12,11 +12,11 @@ use lib.ListN.{getD}
 use borrow.Author.Tests.{lt-ltb, lt-leb, le-ltb, le-leb}
 use Rattle.script_text.specs.declared.numbers.Numeral.{Numeral}
 use Rattle.script_text.specs.declared.numbers.Numeral.the-variants.{Value, TooLarge, NoNumber}
-use Rattle.script_text.specs.Number.{valueTo, digitsTo, fitted, readTo, addDigit, moreOf}
+use Rattle.script_text.specs.Number.{value-to, digits-to, fitted, read-to, add-digit, more-of}
 
 -- a digit more leaves what is too large too large
-fitted-more : (b d v : ℕ) → 0 < b → fitted (v * b + d) ≡ addDigit b d (fitted v)
-unfolding fitted addDigit
+fitted-more : (b d v : ℕ) → 0 < b → fitted (v * b + d) ≡ add-digit b d (fitted v)
+unfolding fitted add-digit
 fitted-more b d v h =
     elim (decLt v (2 ^ 64)) [
       | yes p ↦ simp (lt-ltb _ _ p)
@@ -28,8 +28,8 @@ fitted-more b d v h =
     ]
 
 read-step : (b d v : ℕ) (all : Bool) → 0 < b
-    → cond (all && ltb d b) (fitted (v * b + d)) NoNumber ≡ cond (leb b d) NoNumber (addDigit b d (cond all (fitted v) NoNumber))
-unfolding addDigit
+    → cond (all && ltb d b) (fitted (v * b + d)) NoNumber ≡ cond (leb b d) NoNumber (add-digit b d (cond all (fitted v) NoNumber))
+unfolding add-digit
 read-step b d v true h =
     elim (decLt d b) [
       | yes p ↦ simp (lt-ltb _ _ p, lt-leb _ _ p) (fitted-more b d v h)
@@ -42,13 +42,13 @@ read-step b d v false h =
     ]
 
 -- nothing read yet; one character more
-pub read-none : (b : ℕ) (s : List ℕ) → Value 0 ≡ readTo b s 0
-unfolding readTo digitsTo valueTo fitted
+pub read-none : (b : ℕ) (s : List ℕ) → Value 0 ≡ read-to b s 0
+unfolding read-to digits-to value-to fitted
 read-none b s = refl
 
-pub read-more : {n : Numeral} (b : ℕ) (s : List ℕ) (k : ℕ) → 0 < b → n ≡ readTo b s k → moreOf b (getD s k 0) n ≡ readTo b s (k + 1)
-unfolding moreOf readTo digitsTo valueTo
-read-more b s k h e = rw (e, add-one) (sym (read-step b _ _ (digitsTo b s k) h))
+pub read-more : {n : Numeral} (b : ℕ) (s : List ℕ) (k : ℕ) → 0 < b → n ≡ read-to b s k → more-of b (getD s k 0) n ≡ read-to b s (k + 1)
+unfolding more-of read-to digits-to value-to
+read-more b s k h e = rw (e, add-one) (sym (read-step b _ _ (digits-to b s k) h))
 
 -- the test for v * b + d below 2^64 that needs no larger number
 pub too-large : (v b d : ℕ) → 0 < b → (18446744073709551615 - d) / b < v → TooLarge ≡ fitted (v * b + d)

@@ -9,40 +9,40 @@ use lib.Dec.{eqb}
 use lib.ListN.{length, getD, take, drop, length-drop, drop-of-length-le}
 use lib.Seq.{drop-cons, take-suc, take-all, getD-drop}
 use borrow.Author.Tests.{eq-eqb, ne-eqb}
-use Rattle.script_text.specs.Words.{blank, ending, textOf, textByte, textual, unblank, wordOf, afterWord, Ended, sameText}
+use Rattle.script_text.specs.Words.{blank, ending, text-of, text-byte, textual, unblank, leading-word, after-word, Ended, same-text}
 
 -- the text's end
 
 text-at : (l : List ℕ) (i : ℕ) → i < length l
-    → textOf (drop i l) ≡ cond (ending (getD l i 0) (length l - 1 - i)) [] (getD l i 0 ∷ textOf (drop (i + 1) l))
-unfolding textOf
+    → text-of (drop i l) ≡ cond (ending (getD l i 0) (length l - 1 - i)) [] (getD l i 0 ∷ text-of (drop (i + 1) l))
+unfolding text-of
 text-at l i h =
     let e : length (drop (suc i) l) ≡ length l - 1 - i = length-drop (suc i) l ∙ omega arith in
     rw (add-one i, drop-cons l i 0, e)
 
-pub text-stop : (l : List ℕ) (i : ℕ) → i < length l → textOf l ≡ take i l ++ textOf (drop i l)
-    → true ≡ ending (getD l i 0) (length l - 1 - i) → take i l ≡ textOf l
+pub text-stop : (l : List ℕ) (i : ℕ) → i < length l → text-of l ≡ take i l ++ text-of (drop i l)
+    → true ≡ ending (getD l i 0) (length l - 1 - i) → take i l ≡ text-of l
 text-stop l i h e t = sym (e ∙ rw (text-at l i h, ← t) (append-nil (take i l)))
 
-pub text-more : (l : List ℕ) (i : ℕ) → i < length l → textOf l ≡ take i l ++ textOf (drop i l)
-    → false ≡ ending (getD l i 0) (length l - 1 - i) → textOf l ≡ take (i + 1) l ++ textOf (drop (i + 1) l)
+pub text-more : (l : List ℕ) (i : ℕ) → i < length l → text-of l ≡ take i l ++ text-of (drop i l)
+    → false ≡ ending (getD l i 0) (length l - 1 - i) → text-of l ≡ take (i + 1) l ++ text-of (drop (i + 1) l)
 text-more l i h e t =
     e ∙ rw (text-at l i h, ← t, add-one, take-suc l i 0 h, append-assoc)
 
-pub text-last : (l : List ℕ) (i : ℕ) → length l ≤ i → textOf l ≡ take i l ++ textOf (drop i l) → take i l ≡ textOf l
-unfolding textOf
+pub text-last : (l : List ℕ) (i : ℕ) → length l ≤ i → text-of l ≡ take i l ++ text-of (drop i l) → take i l ≡ text-of l
+unfolding text-of
 text-last l i h e = sym (e ∙ rw (drop-of-length-le l h) (append-nil (take i l)))
 
 -- text throughout
 
-textual-at : (l : List ℕ) (i : ℕ) → i < length l → textual (drop i l) ≡ (textByte (getD l i 0) && textual (drop (i + 1) l))
+textual-at : (l : List ℕ) (i : ℕ) → i < length l → textual (drop i l) ≡ (text-byte (getD l i 0) && textual (drop (i + 1) l))
 unfolding textual
 textual-at l i h = rw (add-one i, drop-cons l i 0)
 
-pub textual-stop : (l : List ℕ) (i : ℕ) → i < length l → textual l ≡ textual (drop i l) → false ≡ textByte (getD l i 0) → false ≡ textual l
+pub textual-stop : (l : List ℕ) (i : ℕ) → i < length l → textual l ≡ textual (drop i l) → false ≡ text-byte (getD l i 0) → false ≡ textual l
 textual-stop l i h e t = sym (e ∙ rw (textual-at l i h, ← t))
 
-pub textual-more : (l : List ℕ) (i : ℕ) → i < length l → textual l ≡ textual (drop i l) → true ≡ textByte (getD l i 0)
+pub textual-more : (l : List ℕ) (i : ℕ) → i < length l → textual l ≡ textual (drop i l) → true ≡ text-byte (getD l i 0)
     → textual l ≡ textual (drop (i + 1) l)
 textual-more l i h e t = e ∙ rw (textual-at l i h, ← t)
 
@@ -68,19 +68,19 @@ unblank-last l i h = rw (drop-of-length-le l h)
 
 -- where it ends: w is what is passed of the word that starts at `from`
 
-word-at : (l : List ℕ) (i : ℕ) → i < length l → wordOf (drop i l) ≡ cond (blank (getD l i 0)) [] (getD l i 0 ∷ wordOf (drop (i + 1) l))
-unfolding wordOf
+word-at : (l : List ℕ) (i : ℕ) → i < length l → leading-word (drop i l) ≡ cond (blank (getD l i 0)) [] (getD l i 0 ∷ leading-word (drop (i + 1) l))
+unfolding leading-word
 word-at l i h = rw (add-one i, drop-cons l i 0)
 
-after-at : (l : List ℕ) (i : ℕ) → i < length l → afterWord (drop i l) ≡ cond (blank (getD l i 0)) (drop i l) (afterWord (drop (i + 1) l))
-unfolding afterWord
+after-at : (l : List ℕ) (i : ℕ) → i < length l → after-word (drop i l) ≡ cond (blank (getD l i 0)) (drop i l) (after-word (drop (i + 1) l))
+unfolding after-word
 after-at l i h = rw (add-one i, drop-cons l i 0)
 
 pub record Passed (l : List ℕ) (from i : ℕ) : Type 0 where
   pub later : from ≤ i
   pub inside : i ≤ length l
-  pub word : wordOf (drop from l) ≡ take (i - from) (drop from l) ++ wordOf (drop i l)
-  pub after : afterWord (drop from l) ≡ afterWord (drop i l)
+  pub word : leading-word (drop from l) ≡ take (i - from) (drop from l) ++ leading-word (drop i l)
+  pub after : after-word (drop from l) ≡ after-word (drop i l)
 
 pub passed-none : (l : List ℕ) (from : ℕ) → from ≤ length l → Passed l from from
 passed-none l from h =
@@ -111,7 +111,7 @@ ended-blank {l} {from} {i} p h t =
     }
 
 pub ended-last : {l : List ℕ} {from i : ℕ} → Passed l from i → length l ≤ i → Ended l from i
-unfolding wordOf afterWord
+unfolding leading-word after-word
 ended-last {l} {from} {i} p h =
     record {
       later = p .later;
@@ -122,8 +122,8 @@ ended-last {l} {from} {i} p h =
 
 -- two texts
 
-pub differ-length : (a b : List ℕ) → (length a ≡ length b → ⊥) → false ≡ sameText a b
-unfolding sameText
+pub differ-length : (a b : List ℕ) → (length a ≡ length b → ⊥) → false ≡ same-text a b
+unfolding same-text
 differ-length [] [] h = absurd (h refl)
 differ-length [] (y ∷ b) h = refl
 differ-length (x ∷ a) [] h = refl
@@ -134,20 +134,20 @@ differ-length (x ∷ a) (y ∷ b) h = differ-step (eqb x y) (differ-length a b (
     differ-step false e = refl
 
 same-at : (a b : List ℕ) (i : ℕ) → i < length a → length a ≡ length b
-    → sameText (drop i a) (drop i b) ≡ (eqb (getD a i 0) (getD b i 0) && sameText (drop (i + 1) a) (drop (i + 1) b))
-unfolding sameText
+    → same-text (drop i a) (drop i b) ≡ (eqb (getD a i 0) (getD b i 0) && same-text (drop (i + 1) a) (drop (i + 1) b))
+unfolding same-text
 same-at a b i h e = let g : i < length b = omega arith in rw (add-one i, drop-cons a i 0 h, drop-cons b i 0 g)
 
-pub same-stop : (a b : List ℕ) (i : ℕ) → i < length a → length a ≡ length b → sameText a b ≡ sameText (drop i a) (drop i b)
-    → (getD a i 0 ≡ getD b i 0 → ⊥) → false ≡ sameText a b
+pub same-stop : (a b : List ℕ) (i : ℕ) → i < length a → length a ≡ length b → same-text a b ≡ same-text (drop i a) (drop i b)
+    → (getD a i 0 ≡ getD b i 0 → ⊥) → false ≡ same-text a b
 same-stop a b i h e s n = sym (s ∙ rw (same-at a b i h e, ne-eqb _ _ n))
 
-pub same-more : (a b : List ℕ) (i : ℕ) → i < length a → length a ≡ length b → sameText a b ≡ sameText (drop i a) (drop i b)
-    → getD a i 0 ≡ getD b i 0 → sameText a b ≡ sameText (drop (i + 1) a) (drop (i + 1) b)
+pub same-more : (a b : List ℕ) (i : ℕ) → i < length a → length a ≡ length b → same-text a b ≡ same-text (drop i a) (drop i b)
+    → getD a i 0 ≡ getD b i 0 → same-text a b ≡ same-text (drop (i + 1) a) (drop (i + 1) b)
 same-more a b i h e s n = s ∙ rw (same-at a b i h e, eq-eqb _ _ n)
 
-pub same-last : (a b : List ℕ) (i : ℕ) → length a ≤ i → length a ≡ length b → sameText a b ≡ sameText (drop i a) (drop i b) → true ≡ sameText a b
-unfolding sameText
+pub same-last : (a b : List ℕ) (i : ℕ) → length a ≤ i → length a ≡ length b → same-text a b ≡ same-text (drop i a) (drop i b) → true ≡ same-text a b
+unfolding same-text
 same-last a b i h e s = let g : length b ≤ i = omega arith in sym (s ∙ rw (drop-of-length-le a h, drop-of-length-le b g))
 
 -- a part that goes to the end

@@ -15,17 +15,17 @@ unfoldable pub ending : ℕ → ℕ → Bool
 ending c left = eqb c 35 || (eqb c 13 && eqb left 0)
 
 -- what is no comment and no line end
-unfoldable pub textOf : List ℕ → List ℕ
-textOf [] = []
-textOf (c ∷ s) = cond (ending c (length s)) [] (c ∷ textOf s)
+unfoldable pub text-of : List ℕ → List ℕ
+text-of [] = []
+text-of (c ∷ s) = cond (ending c (length s)) [] (c ∷ text-of s)
 
 -- only printable characters of ASCII, and blanks
-unfoldable pub textByte : ℕ → Bool
-textByte c = eqb c 9 || (leb 32 c && ltb c 127)
+unfoldable pub text-byte : ℕ → Bool
+text-byte c = eqb c 9 || (leb 32 c && ltb c 127)
 
 unfoldable pub textual : List ℕ → Bool
 textual [] = true
-textual (c ∷ s) = textByte c && textual s
+textual (c ∷ s) = text-byte c && textual s
 
 -- from the next word on
 unfoldable pub unblank : List ℕ → List ℕ
@@ -33,23 +33,23 @@ unblank [] = []
 unblank (c ∷ s) = cond (blank c) (unblank s) (c ∷ s)
 
 -- the word at the start, and what comes after it
-unfoldable pub wordOf : List ℕ → List ℕ
-wordOf [] = []
-wordOf (c ∷ s) = cond (blank c) [] (c ∷ wordOf s)
+unfoldable pub leading-word : List ℕ → List ℕ
+leading-word [] = []
+leading-word (c ∷ s) = cond (blank c) [] (c ∷ leading-word s)
 
-unfoldable pub afterWord : List ℕ → List ℕ
-afterWord [] = []
-afterWord (c ∷ s) = cond (blank c) (c ∷ s) (afterWord s)
+unfoldable pub after-word : List ℕ → List ℕ
+after-word [] = []
+after-word (c ∷ s) = cond (blank c) (c ∷ s) (after-word s)
 
 -- the word of l that starts at `from` ends at r
 pub record Ended (l : List ℕ) (from r : ℕ) : Type 0 where
   pub later : from ≤ r
   pub inside : r ≤ length l
-  pub word : take (r - from) (drop from l) ≡ wordOf (drop from l)
-  pub after : drop r l ≡ afterWord (drop from l)
+  pub word : take (r - from) (drop from l) ≡ leading-word (drop from l)
+  pub after : drop r l ≡ after-word (drop from l)
 
-unfoldable pub sameText : List ℕ → List ℕ → Bool
-sameText [] [] = true
-sameText [] (y ∷ b) = false
-sameText (x ∷ a) [] = false
-sameText (x ∷ a) (y ∷ b) = eqb x y && sameText a b
+unfoldable pub same-text : List ℕ → List ℕ → Bool
+same-text [] [] = true
+same-text [] (y ∷ b) = false
+same-text (x ∷ a) [] = false
+same-text (x ∷ a) (y ∷ b) = eqb x y && same-text a b

@@ -3,7 +3,7 @@ ghost use mathlib.Core.Path.{_≡_};
 ghost use Prim.Native.Nat.{_+_, _≤_, _<_};
 ghost use mathlib.Core.List.{_++_};
 ghost use lib.ListN.{length, drop};
-ghost use Rattle.script_text.specs.Digits.{glyphOf, digits as digits·of, stripped, numeralOf, decimalOf, hexOf, sixteenOf};
+ghost use Rattle.script_text.specs.Digits.{glyph-of, digits as digits·of, stripped, numeral-of, decimal-of, hex-of, sixteen-of};
 ghost use Rattle.script_text.specs.Wrote.{Wrote};
 
 // Puts text at `at`, and answers the place after it.
@@ -21,7 +21,7 @@ pub fn put(out: &mut [u8], at: usize, text: &[u8]) -> usize
 
 fn glyph(d: u64) -> u8
     requires { ⌜ d < 16 ⌝ }
-    ensures { λ r. ⌜ r ≡ glyphOf d ⌝ }
+    ensures { λ r. ⌜ r ≡ glyph-of d ⌝ }
 {
     if d < 10 {
         return 48 + d as u8;
@@ -60,7 +60,7 @@ fn zeros(digits: &[u8]) -> usize
 // n with no zeros in front.
 fn put_number(out: &mut [u8], at: usize, n: u64, base: u64) -> usize
     requires { ⌜ (at + 20 ≤ length (now out)) × (10 ≤ base) × (base ≤ 16) ⌝ }
-    ensures { λ r. ⌜ Wrote 20 (now (out .entry)) at (now (out .exit)) r (numeralOf base n) ⌝ }
+    ensures { λ r. ⌜ Wrote 20 (now (out .entry)) at (now (out .exit)) r (numeral-of base n) ⌝ }
 {
     let mut digits = [0u8; 20];
     spell(&mut digits, n, base);
@@ -70,14 +70,14 @@ fn put_number(out: &mut [u8], at: usize, n: u64, base: u64) -> usize
 
 pub fn put_decimal(out: &mut [u8], at: usize, n: u64) -> usize
     requires { ⌜ at + 20 ≤ length (now out) ⌝ }
-    ensures { λ r. ⌜ Wrote 20 (now (out .entry)) at (now (out .exit)) r (decimalOf n) ⌝ }
+    ensures { λ r. ⌜ Wrote 20 (now (out .entry)) at (now (out .exit)) r (decimal-of n) ⌝ }
 {
     put_number(out, at, n, 10)
 }
 
 pub fn put_hex(out: &mut [u8], at: usize, n: u64) -> usize
     requires { ⌜ at + 22 ≤ length (now out) ⌝ }
-    ensures { λ r. ⌜ Wrote 22 (now (out .entry)) at (now (out .exit)) r (hexOf n) ⌝ }
+    ensures { λ r. ⌜ Wrote 22 (now (out .entry)) at (now (out .exit)) r (hex-of n) ⌝ }
 {
     let next = put(out, at, b"0x");
     put_number(out, next, n, 16)
@@ -86,7 +86,7 @@ pub fn put_hex(out: &mut [u8], at: usize, n: u64) -> usize
 // Sixteen digits.
 pub fn put_word(out: &mut [u8], at: usize, n: u64) -> usize
     requires { ⌜ at + 18 ≤ length (now out) ⌝ }
-    ensures { λ r. ⌜ Wrote 18 (now (out .entry)) at (now (out .exit)) r (sixteenOf n) ⌝ }
+    ensures { λ r. ⌜ Wrote 18 (now (out .entry)) at (now (out .exit)) r (sixteen-of n) ⌝ }
 {
     let mut digits = [0u8; 16];
     spell(&mut digits, n, 16);
@@ -97,7 +97,7 @@ pub fn put_word(out: &mut [u8], at: usize, n: u64) -> usize
 // A label and a number.
 pub fn put_field(out: &mut [u8], at: usize, label: &[u8], n: u64) -> usize
     requires { ⌜ at + length (now label) + 20 ≤ length (now out) ⌝ }
-    ensures { λ r. ⌜ Wrote (length (now (label .entry)) + 20) (now (out .entry)) at (now (out .exit)) r (now (label .entry) ++ decimalOf n) ⌝ }
+    ensures { λ r. ⌜ Wrote (length (now (label .entry)) + 20) (now (out .entry)) at (now (out .exit)) r (now (label .entry) ++ decimal-of n) ⌝ }
 {
     let next = put(out, at, label);
     put_decimal(out, next, n)

@@ -1,7 +1,7 @@
 // A number: decimal digits, or hexadecimal ones after 0x; below 2^64.
 ghost use mathlib.Core.Path.{_≡_};
 ghost use Prim.Native.Nat.{_+_, _*_, _<_};
-ghost use Rattle.script_text.specs.Number.{digitOf, fitted, moreOf, readIn, numberOf};
+ghost use Rattle.script_text.specs.Number.{digit-of, fitted, more-of, read-numeral, number-of};
 
 pub enum Numeral {
     Value(u64),
@@ -11,7 +11,7 @@ pub enum Numeral {
 
 // What a character is worth as a digit; 99 where it is none.
 fn digit(c: u8) -> u64
-    ensures { λ r. ⌜ r ≡ digitOf c ⌝ }
+    ensures { λ r. ⌜ r ≡ digit-of c ⌝ }
 {
     if c < b'0' {
         return 99;
@@ -48,7 +48,7 @@ fn with_digit(v: u64, base: u64, d: u64) -> Numeral
 // What was read, and one character more.
 fn more(n: Numeral, base: u64, c: u8) -> Numeral
     requires { ⌜ 0 < base ⌝ }
-    ensures { λ r. ⌜ r ≡ moreOf base c n ⌝ }
+    ensures { λ r. ⌜ r ≡ more-of base c n ⌝ }
 {
     let d = digit(c);
     if base <= d {
@@ -63,7 +63,7 @@ fn more(n: Numeral, base: u64, c: u8) -> Numeral
 
 fn read(s: &[u8], base: u64) -> Numeral
     requires { ⌜ 0 < base ⌝ }
-    ensures { λ r. ⌜ r ≡ readIn base (now (s .entry)) ⌝ }
+    ensures { λ r. ⌜ r ≡ read-numeral base (now (s .entry)) ⌝ }
 {
     if s.len() == 0 {
         return Numeral::NoNumber;
@@ -78,7 +78,7 @@ fn read(s: &[u8], base: u64) -> Numeral
 }
 
 pub fn number(s: &[u8]) -> Numeral
-    ensures { λ r. ⌜ r ≡ numberOf (now (s .entry)) ⌝ }
+    ensures { λ r. ⌜ r ≡ number-of (now (s .entry)) ⌝ }
 {
     if s.len() < 2 {
         return read(s, 10);

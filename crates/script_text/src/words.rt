@@ -2,7 +2,7 @@
 ghost use mathlib.Core.Path.{_≡_};
 ghost use Prim.Native.Nat.{_≤_};
 ghost use lib.ListN.{length, take, drop};
-ghost use Rattle.script_text.specs.Words.{ending, textOf, textual, blank, textByte, unblank, Ended, sameText};
+ghost use Rattle.script_text.specs.Words.{ending, text-of, textual, blank, text-byte, unblank, Ended, same-text};
 
 // A comment ends the text, and so does a carriage return with nothing after it.
 fn is_ending(c: u8, left: usize) -> bool
@@ -19,7 +19,7 @@ fn is_ending(c: u8, left: usize) -> bool
 
 // How many bytes of a line are text.
 pub fn text_end(line: &[u8]) -> usize
-    ensures { λ r. ⌜ (r ≤ length (now (line .entry))) × (take r (now (line .entry)) ≡ textOf (now (line .entry))) ⌝ }
+    ensures { λ r. ⌜ (r ≤ length (now (line .entry))) × (take r (now (line .entry)) ≡ text-of (now (line .entry))) ⌝ }
 {
     let mut i = 0;
     while i < line.len() {
@@ -32,7 +32,7 @@ pub fn text_end(line: &[u8]) -> usize
 }
 
 fn is_text_byte(c: u8) -> bool
-    ensures { λ r. ⌜ r ≡ textByte c ⌝ }
+    ensures { λ r. ⌜ r ≡ text-byte c ⌝ }
 {
     if c == 9 {
         return true;
@@ -98,7 +98,7 @@ pub fn word_end(s: &[u8], from: usize) -> usize
 }
 
 pub fn same(a: &[u8], b: &[u8]) -> bool
-    ensures { λ r. ⌜ r ≡ sameText (now (a .entry)) (now (b .entry)) ⌝ }
+    ensures { λ r. ⌜ r ≡ same-text (now (a .entry)) (now (b .entry)) ⌝ }
 {
     if a.len() != b.len() {
         return false;

@@ -6,8 +6,8 @@ use mathlib.Core.List.{List, [], _∷_, _++_}
 use mathlib.Core.Option.{Option, none, some}
 use lib.ListN.{length}
 use lib.Dec.{eqb, ltb}
-use Rattle.walk_descriptor.specs.declared.Kind.{Kind}
-use Rattle.walk_descriptor.specs.declared.Kind.the-variants.{WalkAbort, Translation}
+use Rattle.walk_descriptor.specs.declared.FaultKind.{FaultKind}
+use Rattle.walk_descriptor.specs.declared.FaultKind.the-variants.{WalkAbort, Translation}
 use Rattle.walk.specs.declared.Answer.{Answer}
 use Rattle.walk.specs.declared.Answer.the-variants.{Found, Fault, During, Refused}
 use Rattle.walk.specs.Memory.{image-fits, read-at}
@@ -32,7 +32,7 @@ fetched-at a (some d) abort next = having-fetched (a ∷ []) (next d)
 -- Stage 2 ends with an address, or with a kind and a level.
 pub data One : Type 0 where
   reached : ℕ → One
-  failed : (kind : Kind) (level : ℕ) → One
+  failed : (kind : FaultKind) (level : ℕ) → One
 
 unfoldable pub rules-2 : ℕ → Stage (Walked One)
 rules-2 access = record {
@@ -50,15 +50,15 @@ stage-2 m b root access ipa = walk-from (rules-2 access) ipa (fetch-2 m b) 3 roo
 -- Section 5. "The answer is an address, or kind, stage, level, and for "during stage 1" the second level."
 pub data Both : Type 0 where
   found : ℕ → Both
-  fault : (kind : Kind) (stage level : ℕ) → Both
-  during : (kind : Kind) (level of : ℕ) → Both
+  fault : (kind : FaultKind) (stage level : ℕ) → Both
+  during : (kind : FaultKind) (level of : ℕ) → Both
 
 -- A guest-physical address goes through stage 2: what a failure there means, and what follows otherwise.
-abbrev pub by-result : One → (Kind → ℕ → Both) → (ℕ → Walked Both) → Walked Both
+abbrev pub by-result : One → (FaultKind → ℕ → Both) → (ℕ → Walked Both) → Walked Both
 by-result (reached a) fails next = next a
 by-result (failed kind level) fails next = ends (fails kind level)
 
-abbrev pub through : Walked One → (Kind → ℕ → Both) → (ℕ → Walked Both) → Walked Both
+abbrev pub through : Walked One → (FaultKind → ℕ → Both) → (ℕ → Walked Both) → Walked Both
 through w fails next = having-fetched (w .fetched) (by-result (w .result) fails next)
 
 -- "If stage 1 succeeds, its result goes through stage 2 with the original kind of access."

@@ -6,7 +6,7 @@ use mathlib.Core.List.{List}
 use mathlib.Core.Option.{Option, none, some}
 use lib.ListN.{length}
 use lib.Dec.{eqb, leb}
-use Rattle.memory.specs.Word.{wordAt}
+use Rattle.memory.specs.Word.{word-at}
 
 -- "n frames of 4,096 bytes, 16 <= n <= 65,536, from physical address b, a multiple of 4,096 with b + 4,096 n <= 2^48.
 -- It is a lent slice of 4,096 n bytes"
@@ -20,4 +20,4 @@ in-ram m b a = leb b a && leb (a - b + 8) (length m)
 
 -- The descriptor at the physical address a, where its eight bytes are all in RAM.
 unfoldable pub read-at : List ℕ → ℕ → ℕ → Option ℕ
-read-at m b a = cond (in-ram m b a) (some (wordAt m (a - b))) none
+read-at m b a = cond (in-ram m b a) (some (word-at m (a - b))) none

@@ -7,7 +7,7 @@ use mathlib.Core.Option.{Option, none, some}
 use lib.ListN.{length}
 use Rattle.walk.specs.declared.Answer.{Answer}
 use Rattle.walk.specs.declared.Answer.the-variants.{Found, Fault}
-use Rattle.walk_descriptor.specs.declared.Kind.the-variants.{WalkAbort}
+use Rattle.walk_descriptor.specs.declared.FaultKind.the-variants.{WalkAbort}
 use Rattle.walk_level.specs.declared.Step.{Step}
 use Rattle.walk_level.specs.declared.Step.the-variants.{Absent}
 use Rattle.walk.specs.declared.Ended.{Ended}

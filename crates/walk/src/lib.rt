@@ -9,7 +9,7 @@ ghost use Rattle.walk.specs.Both.{root-fits, stage2-fits, both-fits, ans
 mod stage_1;
 mod stage_2;
 
-pub use walk_descriptor::Kind;
+pub use walk_descriptor::FaultKind;
 
 // `fetched` is the number of descriptors that were read.
 pub enum Answer {
@@ -18,14 +18,14 @@ pub enum Answer {
         fetched: u64,
     },
     Fault {
-        kind: Kind,
+        kind: FaultKind,
         stage: u64,
         level: u64,
         fetched: u64,
     },
     // A failure of stage 2 at `level`, while stage 1 fetched its descriptor of the level `of`.
     During {
-        kind: Kind,
+        kind: FaultKind,
         level: u64,
         of: u64,
         fetched: u64,
@@ -40,7 +40,7 @@ enum Ended {
         fetched: u64,
     },
     Failed {
-        kind: Kind,
+        kind: FaultKind,
         level: u64,
         fetched: u64,
     },

@@ -7,7 +7,7 @@ use super::Answer;
 use super::Ended;
 use super::Turn;
 use super::stage_2;
-use walk_descriptor::Kind;
+use walk_descriptor::FaultKind;
 use walk_level::Step;
 
 // The descriptor of a level, which was reached at the physical address `a`; `before` descriptors were fetched on the way here.
@@ -41,7 +41,7 @@ fn follow(
             fetched: before + 1,
         }),
         Step::Absent => Turn::Told(Answer::Fault {
-            kind: Kind::WalkAbort,
+            kind: FaultKind::WalkAbort,
             stage: 1,
             level,
             fetched: before,
@@ -132,7 +132,7 @@ pub(crate) fn both(
         return walk(ram, base, root1, root2, va, access, el);
     }
     Answer::Fault {
-        kind: Kind::Translation,
+        kind: FaultKind::Translation,
         stage: 1,
         level: 0,
         fetched: 0,

@@ -6,7 +6,7 @@ ghost use Rattle.walk_descriptor.specs.Descriptor.{allows};
 ghost use Rattle.walk.specs.Steps.{step-at, tells, ended, Finished};
 use super::Answer;
 use super::Ended;
-use walk_descriptor::Kind;
+use walk_descriptor::FaultKind;
 use walk_level::Step;
 
 // The descriptor at the physical address `a`, for the input address `ia` of a stage.
@@ -63,7 +63,7 @@ pub(crate) fn walk(ram: &[u8], base: u64, root: u64, access: u64, ipa: u64, befo
             }
             Step::Absent => {
                 return Ended::Failed {
-                    kind: Kind::WalkAbort,
+                    kind: FaultKind::WalkAbort,
                     level,
                     fetched: before + level,
                 };

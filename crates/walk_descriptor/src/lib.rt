@@ -4,7 +4,7 @@ ghost use mathlib.Core.Bool.{_||_};
 ghost use Rattle.walk_descriptor.specs.Descriptor.{is-table as table·of, is-block, is-page, reads-1, writes-1, executes-1, allows-1, allows-2, allows};
 
 // Why a walk failed.
-pub enum Kind {
+pub enum FaultKind {
     WalkAbort,
     Translation,
     NotModelled,

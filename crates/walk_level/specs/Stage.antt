@@ -3,15 +3,15 @@
 use Prim.Native.Nat.{ℕ, zero, suc, _+_, _-_, _%_}
 use mathlib.Core.Bool.{Bool, cond}
 use lib.Dec.{eqb}
-use Rattle.walk_descriptor.specs.declared.Kind.{Kind}
-use Rattle.walk_descriptor.specs.declared.Kind.the-variants.{Translation, NotModelled, AccessFlag, Permission}
+use Rattle.walk_descriptor.specs.declared.FaultKind.{FaultKind}
+use Rattle.walk_descriptor.specs.declared.FaultKind.the-variants.{Translation, NotModelled, AccessFlag, Permission}
 use Rattle.walk_descriptor.specs.Descriptor.{span, slot, bit, address, is-table, is-valid, is-modelled}
 
 pub record Stage (A : Type 0) : Type 0 where
   -- whether the rights in a descriptor allow the access
   pub allows : ℕ → Bool
   -- a fault of a kind at a level
-  pub fault : Kind → ℕ → A
+  pub fault : FaultKind → ℕ → A
   -- an output address
   pub output : ℕ → A
 

@@ -3,19 +3,19 @@ ghost use mathlib.Core.Path.{_≡_};
 ghost use mathlib.Core.Bool.{cond, _&&_};
 ghost use Prim.Native.Nat.{_+_, _*_, _-_, _<_, _≤_, _^_, _/_, _%_};
 ghost use lib.Dec.{eqb};
-ghost use Rattle.walk_descriptor.specs.declared.Kind.the-variants.{NotModelled, AccessFlag, Permission};
+ghost use Rattle.walk_descriptor.specs.declared.FaultKind.the-variants.{NotModelled, AccessFlag, Permission};
 ghost use Rattle.walk_descriptor.specs.Descriptor.{span, slot, bit, address, allows};
 ghost use Rattle.walk_level.specs.Stage.{leaf as leaf·of};
 ghost use Rattle.walk_level.specs.Step.{steps, step-of};
 ghost use Rattle.walk_level.specs.declared.Step.the-variants.{Down, Output, Fail};
-use walk_descriptor::Kind;
+use walk_descriptor::FaultKind;
 
 // What the descriptor at an address comes to; Absent where it is not in RAM.
 pub enum Step {
     Absent,
     Down(u64),
     Output(u64),
-    Fail(Kind),
+    Fail(FaultKind),
 }
 
 // The bytes of the input address that a descriptor of a level covers.
@@ -56,7 +56,7 @@ fn table(d: u64) -> Step
             return Step::Down(d / 0x1000 % 0x1000000000 * 0x1000);
         }
     }
-    Step::Fail(Kind::NotModelled)
+    Step::Fail(FaultKind::NotModelled)
 }
 
 // A block or page with the output address `o`.
@@ -64,12 +64,12 @@ fn leaf(stage: u64, el: u64, access: u64, d: u64, o: u64) -> Step
     ensures { λ r. ⌜ r ≡ cond (eqb (bit 10 d) 0) (Fail AccessFlag) (cond (allows stage el access d) (Output o) (Fail Permission)) ⌝ }
 {
     if d / 0x400 % 2 == 0 {
-        return Step::Fail(Kind::AccessFlag);
+        return Step::Fail(FaultKind::AccessFlag);
     }
     if walk_descriptor::allowed(stage, el, access, d) {
         return Step::Output(o);
     }
-    Step::Fail(Kind::Permission)
+    Step::Fail(FaultKind::Permission)
 }
 
 fn block_or_page(stage: u64, el: u64, access: u64, ia: u64, level: u64, d: u64) -> Step
@@ -83,7 +83,7 @@ fn block_or_page(stage: u64, el: u64, access: u64, ia: u64, level: u64, d: u64) 
             return leaf(stage, el, access, d, a + offset_in(ia, size));
         }
     }
-    Step::Fail(Kind::NotModelled)
+    Step::Fail(FaultKind::NotModelled)
 }
 
 // Section 4, points 2 to 5. Each part is called from one place, so that the compiler puts the whole into the walks.
@@ -97,5 +97,5 @@ pub fn examine(stage: u64, el: u64, access: u64, ia: u64, level: u64, d: u64) ->
     if walk_descriptor::is_block_or_page(level, d) {
         return block_or_page(stage, el, access, ia, level, d);
     }
-    Step::Fail(Kind::Translation)
+    Step::Fail(FaultKind::Translation)
 }

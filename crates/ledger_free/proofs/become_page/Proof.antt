@@ -1,6 +1,6 @@
 -- Written by tools/prove from the file answers beside it: edit that, and not this.
 -- The number of its kind, and its guest.
-use Rattle.ledger_free.specs.Moves.{page-taken}
+use Rattle.ledger_free.proofs.Laws.Moves.{page-taken}
 use borrow.Author.Needs.{needs}
 use Rattle.ledger_free.proofs.become_page.Statement.{statement}
 use Rattle.ledger_free.proofs.become_page.Tie as tie

@@ -1,6 +1,6 @@
 -- Written by tools/prove from the file answers beside it: edit that, and not this.
 -- The number of its kind, and three cells.
-use Rattle.ledger_free.specs.Moves.{table-taken}
+use Rattle.ledger_free.proofs.Laws.Moves.{table-taken}
 use borrow.Author.Needs.{needs}
 use Rattle.ledger_free.proofs.become_table.Statement.{statement}
 use Rattle.ledger_free.proofs.become_table.Tie as tie

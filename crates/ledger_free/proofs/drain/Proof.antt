@@ -1,8 +1,8 @@
 -- Written by tools/prove from the file answers beside it: edit that, and not this.
 -- A table becomes a draining one, and a page too.
 use mathlib.Core.Logic.{inl, inr}
-use Rattle.ledger.specs.Stores.{row-low}
-use Rattle.ledger_free.specs.Moves.{in-use, drain-none, drain-one}
+use Rattle.ledger.proofs.Laws.Stores.{row-low}
+use Rattle.ledger_free.proofs.Laws.Moves.{in-use, drain-none, drain-one}
 use borrow.Author.Needs.{needs}
 use native.Mathlib.Omega.{arith}
 use Rattle.ledger_free.proofs.drain.Statement.{statement}

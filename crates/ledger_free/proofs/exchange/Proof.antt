@@ -1,6 +1,7 @@
 -- Written by tools/prove from the file answers beside it: edit that, and not this.
 -- Every place and frame of the set has a row.
-use Rattle.ledger_free.specs.Moves.{exchanged, place-row, frame-row}
+use Rattle.ledger_free.specs.Moves.{exchanged}
+use Rattle.ledger_free.proofs.Laws.Moves.{place-row, frame-row}
 use borrow.Author.Needs.{needs}
 use Rattle.ledger_free.proofs.exchange.Statement.{statement}
 use Rattle.ledger_free.proofs.exchange.Tie as tie

@@ -1,6 +1,6 @@
 -- Written by tools/prove from the file answers beside it: edit that, and not this.
 -- The last of the free ones in the set.
-use Rattle.ledger.specs.Sound.{next-is}
+use Rattle.ledger.proofs.Laws.Sound.{next-is}
 use borrow.Author.Needs.{needs}
 use Rattle.ledger_free.proofs.next.Statement.{statement}
 use Rattle.ledger_free.proofs.next.Tie as tie

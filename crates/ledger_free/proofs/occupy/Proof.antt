@@ -1,6 +1,6 @@
 -- Written by tools/prove from the file answers beside it: edit that, and not this.
 -- The frame changes places with the last free one, and the set is shorter by one.
-use Rattle.ledger_free.specs.Moves.{last-place}
+use Rattle.ledger_free.proofs.Laws.Moves.{last-place}
 use borrow.Author.Needs.{needs}
 use native.Mathlib.Omega.{arith}
 use Rattle.ledger_free.proofs.occupy.Statement.{statement}

@@ -1,6 +1,6 @@
 -- Written by tools/prove from the file answers beside it: edit that, and not this.
 -- The frame changes places with the first that is not free, and the set is longer by one.
-use Rattle.ledger_free.specs.Moves.{not-one, next-place, freed}
+use Rattle.ledger_free.proofs.Laws.Moves.{not-one, next-place, freed}
 use borrow.Author.Needs.{needs}
 use native.Mathlib.Omega.{arith}
 use Rattle.ledger_free.proofs.put_back.Statement.{statement}

@@ -1,7 +1,7 @@
 -- Written by tools/prove from the file answers beside it: edit that, and not this.
 -- What drains for the guest is put back.
 use mathlib.Core.Logic.{inl, inr}
-use Rattle.ledger_free.specs.Moves.{not-free, release-none, release-one}
+use Rattle.ledger_free.proofs.Laws.Moves.{not-free, release-none, release-one}
 use borrow.Author.Needs.{needs}
 use Rattle.ledger_free.proofs.release.Statement.{statement}
 use Rattle.ledger_free.proofs.release.Tie as tie

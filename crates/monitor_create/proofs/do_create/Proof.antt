@@ -1,26 +1,26 @@
 -- Written by tools/prove from the file answers beside it: edit that, and not this.
 -- The next free frame is cleared, taken, and the root.
-use Rattle.ledger.specs.Sound.{within}
-use Rattle.monitor_create.specs.Create.{create-free, create-guest, create-end}
+use Rattle.ledger.proofs.Laws.Sound.{within}
+use Rattle.monitor_create.proofs.Laws.Create.{create-free, create-guest, create-end}
 use borrow.Author.Needs.{needs}
 use native.Mathlib.Omega.{arith}
 use Rattle.monitor_create.proofs.do_create.Statement.{statement}
 use Rattle.monitor_create.proofs.do_create.Tie as tie
 
 next-requires : tie.Need-next-requires
-next-requires c κs = (c .before .before .before .pre .0 .stock, create-free (c .before .before .before .pre .0) (c .before .before .before .args .g) (c .before .before .before .pre .1))
+next-requires c κs = (c .before .before .before .pre .0 .ledger-sound, create-free (c .before .before .before .pre .0) (c .before .before .before .args .g) (c .before .before .before .pre .1))
 
 clear-frame-requires : tie.Need-clear-frame-requires
-clear-frame-requires c κs = (omega (arith, c .before .next .ensures .1, c .before .before .before .before .before .pre .0 .stock .few), within (c .before .before .before .before .before .args .ram .now) (c .before .before .before .before .before .args .ledger .now) (c .before .before .before .before .before .pre .0) (c .before .next .result) (c .before .next .ensures .1))
+clear-frame-requires c κs = (omega (arith, c .before .next .ensures .1, c .before .before .before .before .before .pre .0 .ledger-sound .few), within (c .before .before .before .before .before .args .ram .now) (c .before .before .before .before .before .args .ledger .now) (c .before .before .before .before .before .pre .0) (c .before .next .result) (c .before .next .ensures .1))
 
 become-table-requires : tie.Need-become-table-requires
-become-table-requires c κs = (c .before .before .before .before .before .before .before .before .before .pre .0 .stock, (c .before .before .before .before .before .next .ensures .1, (c .before .before .before .before .before .next .ensures .2, ((create-guest (c .before .before .before .before .before .before .before .before .before .pre .0) (c .before .before .before .before .before .before .before .before .before .args .g) (c .before .before .before .before .before .before .before .before .before .pre .1)), omega arith, omega arith))))
+become-table-requires c κs = (c .before .before .before .before .before .before .before .before .before .pre .0 .ledger-sound, (c .before .before .before .before .before .next .ensures .1, (c .before .before .before .before .before .next .ensures .2, ((create-guest (c .before .before .before .before .before .before .before .before .before .pre .0) (c .before .before .before .before .before .before .before .before .before .args .g) (c .before .before .before .before .before .before .before .before .before .pre .1)), omega arith, omega arith))))
 
 set-existence-requires : tie.Need-set-existence-requires
-set-existence-requires c κs = (c .before .before .before .become-table .ensures .changes .stock, ((create-guest (c .before .before .before .before .before .before .before .before .before .before .before .before .before .pre .0) (c .before .before .before .before .before .before .before .before .before .before .before .before .before .args .g) (c .before .before .before .before .before .before .before .before .before .before .before .before .before .pre .1)), omega arith))
+set-existence-requires c κs = (c .before .before .before .become-table .ensures .changes .ledger-sound, ((create-guest (c .before .before .before .before .before .before .before .before .before .before .before .before .before .pre .0) (c .before .before .before .before .before .before .before .before .before .before .before .before .before .args .g) (c .before .before .before .before .before .before .before .before .before .before .before .before .before .pre .1)), omega arith))
 
 set-root-requires : tie.Need-set-root-requires
-set-root-requires c κs = (c .before .before .before .set-existence .ensures .stock, ((create-guest (c .before .before .before .before .before .before .before .before .before .before .before .before .before .before .before .before .before .pre .0) (c .before .before .before .before .before .before .before .before .before .before .before .before .before .before .before .before .before .args .g) (c .before .before .before .before .before .before .before .before .before .before .before .before .before .before .before .before .before .pre .1)), omega (arith, c .before .before .before .before .before .before .before .before .before .before .before .before .before .next .ensures .1, c .before .before .before .before .before .before .before .before .before .before .before .before .before .before .before .before .before .pre .0 .stock .few)))
+set-root-requires c κs = (c .before .before .before .set-existence .ensures .ledger-sound, ((create-guest (c .before .before .before .before .before .before .before .before .before .before .before .before .before .before .before .before .before .pre .0) (c .before .before .before .before .before .before .before .before .before .before .before .before .before .before .before .before .before .args .g) (c .before .before .before .before .before .before .before .before .before .before .before .before .before .before .before .before .before .pre .1)), omega (arith, c .before .before .before .before .before .before .before .before .before .before .before .before .before .next .ensures .1, c .before .before .before .before .before .before .before .before .before .before .before .before .before .before .before .before .before .pre .0 .ledger-sound .few)))
 
 same-length : tie.Need-same-length
 same-length c = search needs

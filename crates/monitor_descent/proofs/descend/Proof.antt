@@ -3,9 +3,10 @@
 use mathlib.Core.Path.{_∙_, ap}
 use Prim.Native.Nat.{ℕ, _%_}
 use Rattle.ledger.specs.Layout.{word-of, state-of}
-use Rattle.ledger.specs.Laws.{guest-low}
-use Rattle.ledger.specs.Sound.{guest-there}
-use Rattle.monitor_descent.specs.Way.{Reached, way-root, way-words, way-down, way-short, ended-last}
+use Rattle.ledger.proofs.Laws.Fields.{guest-low}
+use Rattle.ledger.proofs.Laws.Sound.{guest-there}
+use Rattle.monitor_descent.specs.Way.{Reached}
+use Rattle.monitor_descent.proofs.Laws.Way.{way-root, way-words, way-down, way-short, ended-last}
 use borrow.Author.Needs.{needs}
 use native.Mathlib.Omega.{arith}
 use Rattle.monitor_descent.proofs.descend.Statement.{statement}
@@ -18,10 +19,10 @@ abbrev μ-loop : tie.MeasureT-loop
 μ-loop ram ledger g v first table₀ height₀ table height = height
 
 first-requires : tie.Need-first-requires Inv-loop μ-loop
-first-requires c κs = c .before .before .pre .0 .stock
+first-requires c κs = c .before .before .pre .0 .ledger-sound
 
 root-requires : tie.Need-root-requires Inv-loop μ-loop
-root-requires c κs = (c .before .before .before .pre .0 .stock, guest-low (c .before .before .before .args .g) (guest-there (c .before .before .before .args .ram .now) (c .before .before .before .args .ledger .now) (c .before .before .before .pre .0) (c .before .before .before .args .g) (c .before .before .before .pre .1 .0)) .1)
+root-requires c κs = (c .before .before .before .pre .0 .ledger-sound, guest-low (c .before .before .before .args .g) (guest-there (c .before .before .before .args .ram .now) (c .before .before .before .args .ledger .now) (c .before .before .before .pre .0) (c .before .before .before .args .g) (c .before .before .before .pre .1 .0)) .1)
 
 loop-holds : tie.Need-loop-holds Inv-loop μ-loop
 loop-holds c = way-root (c .before .before .before .before .pre .0) (c .before .before .before .before .args .g) (c .before .before .before .before .args .v) (c .root .result) (c .root .ensures) (c .before .before .before .before .pre .1 .0) (c .before .before .before .before .pre .1 .1)

@@ -3,11 +3,12 @@
 use mathlib.Core.Bool.{true}
 use mathlib.Core.Path.{_≡_, _∙_, sym}
 use Prim.Native.Nat.{ℕ, _-_, _≤_}
-use Rattle.model.specs.Base.{all, not-true}
+use Rattle.model.specs.Base.{all}
+use Rattle.model.proofs.Laws.Base.{not-true}
 use Rattle.model.specs.Operations.{unshared}
 use Rattle.ledger.specs.Layout.{size-of, state-of}
 use borrow.Author.Tests.{not-false}
-use Rattle.monitor_destroy.specs.Destroy.{all-none, all-more, all-false}
+use Rattle.monitor_destroy.proofs.Laws.Destroy.{all-none, all-more, all-false}
 use native.Mathlib.Omega.{arith}
 use Rattle.monitor_destroy.proofs.all_unshared.Statement.{statement}
 use Rattle.monitor_destroy.proofs.all_unshared.Tie as tie
@@ -19,7 +20,7 @@ abbrev μ-loop : tie.MeasureT-loop
 μ-loop ram ledger g n f₀ f = n - f
 
 size-requires : tie.Need-size-requires Inv-loop μ-loop
-size-requires c κs = c .before .before .pre .0 .stock
+size-requires c κs = c .before .before .pre .0 .ledger-sound
 
 loop-holds : tie.Need-loop-holds Inv-loop μ-loop
 loop-holds c = (omega arith, all-none ((unshared (state-of (c .before .before .before .args .ram .now) (c .before .before .before .args .ledger .now)) (c .before .before .before .args .g))))

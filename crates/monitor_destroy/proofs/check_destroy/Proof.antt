@@ -1,17 +1,17 @@
 -- Written by tools/prove from the file answers beside it: edit that, and not this.
 -- Check by check, in the order of the definition.
 use mathlib.Core.Path.{_∙_, refl, sym}
-use Rattle.model.specs.Base.{not-true}
+use Rattle.model.proofs.Laws.Base.{not-true}
 use Rattle.model.specs.Operations.{destroy}
 use Rattle.ledger.specs.Layout.{state-in}
-use Rattle.ledger.specs.Sound.{guest-there}
+use Rattle.ledger.proofs.Laws.Sound.{guest-there}
 use borrow.Author.Tests.{not-false}
-use Rattle.monitor_contract.specs.Answers.{stops, goes-on}
+use Rattle.monitor_contract.proofs.Laws.Answers.{stops, goes-on}
 use Rattle.monitor_destroy.proofs.check_destroy.Statement.{statement}
 use Rattle.monitor_destroy.proofs.check_destroy.Tie as tie
 
 exists-requires : tie.Need-exists-requires
-exists-requires c κs = c .before .before .pre .stock
+exists-requires c κs = c .before .before .pre .ledger-sound
 
 returns : tie.Need-returns
 unfolding destroy state-in

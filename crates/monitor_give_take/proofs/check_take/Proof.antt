@@ -2,39 +2,39 @@
 -- Check by check, in the order of the definition.
 use mathlib.Core.Path.{_∙_, refl, sym}
 use lib.Dec.{eqb}
-use Rattle.model.specs.Base.{not-true}
+use Rattle.model.proofs.Laws.Base.{not-true}
 use Rattle.model.specs.State.{total}
 use Rattle.model.specs.Operations.{take}
 use Rattle.ledger.specs.Layout.{size-of, count-of, shared-of, state-in}
 use borrow.Author.Tests.{not-false, lt-ltb, le-ltb, eq-eqb, ne-eqb}
-use Rattle.monitor_contract.specs.Answers.{stops, goes-on, and-left, and-right, and-both}
+use Rattle.monitor_contract.proofs.Laws.Answers.{stops, goes-on, and-left, and-right, and-both}
 use native.Mathlib.Omega.{arith}
 use Rattle.monitor_give_take.proofs.check_take.Statement.{statement}
 use Rattle.monitor_give_take.proofs.check_take.Tie as tie
 
 exists-requires : tie.Need-exists-requires
-exists-requires c κs = c .before .before .pre .stock
+exists-requires c κs = c .before .before .pre .ledger-sound
 
 returns : tie.Need-returns
 unfolding take state-in
 returns c = stops _ 5 _ (sym (c .before .exists .ensures) ∙ not-true _ (c .if1 .taken))
 
 size-requires : tie.Need-size-requires
-size-requires c κs = c .before .before .before .before .pre .stock
+size-requires c κs = c .before .before .before .before .pre .ledger-sound
 
 returns-2 : tie.Need-returns-2
 unfolding take state-in
 returns-2 c = (goes-on _ 5 _ (sym (c .before .before .before .exists .ensures) ∙ not-false _ (c .before .before .if1 .left))) (stops _ 4 _ (le-ltb (c .before .before .before .before .before .before .args .f) (size-of (c .before .before .before .before .before .before .args .ledger .now)) (omega (arith, c .before .size .ensures .0, c .if2 .taken))))
 
 is-page-of-requires : tie.Need-is-page-of-requires
-is-page-of-requires c κs = (c .before .before .before .before .before .before .pre .stock, (omega (arith, c .before .size .ensures .0, c .if2 .left)))
+is-page-of-requires c κs = (c .before .before .before .before .before .before .pre .ledger-sound, (omega (arith, c .before .size .ensures .0, c .if2 .left)))
 
 returns-3 : tie.Need-returns-3
 unfolding take state-in
 returns-3 c = (goes-on _ 5 _ (sym (c .before .before .before .before .before .exists .ensures) ∙ not-false _ (c .before .before .before .before .if1 .left))) ((goes-on _ 4 _ (lt-ltb (c .before .before .before .before .before .before .before .before .args .f) (size-of (c .before .before .before .before .before .before .before .before .args .ledger .now)) ((omega (arith, c .before .before .before .size .ensures .0, c .before .before .if2 .left))))) (stops _ 9 _ (sym (c .before .is-page-of .ensures) ∙ not-true _ (c .if3 .taken))))
 
 uses-requires : tie.Need-uses-requires
-uses-requires c κs = (c .before .before .before .before .before .before .before .before .pre .stock, (omega (arith, c .before .before .before .size .ensures .0, c .before .before .if2 .left)))
+uses-requires c κs = (c .before .before .before .before .before .before .before .before .pre .ledger-sound, (omega (arith, c .before .before .before .size .ensures .0, c .before .before .if2 .left)))
 
 returns-4 : tie.Need-returns-4
 unfolding take state-in

@@ -1,21 +1,21 @@
 -- Written by tools/prove from the file answers beside it: edit that, and not this.
 -- The page is cleared, taken, and shared with nobody.
-use Rattle.ledger.specs.Sound.{within}
-use Rattle.monitor_contract.specs.Answers.{taken-low}
-use Rattle.monitor_give_take.specs.Give.{give-low, give-free, give-guest, give-end}
+use Rattle.ledger.proofs.Laws.Sound.{within}
+use Rattle.monitor_contract.proofs.Laws.Answers.{taken-low}
+use Rattle.monitor_give_take.proofs.Laws.Give.{give-low, give-free, give-guest, give-end}
 use borrow.Author.Needs.{needs}
 use native.Mathlib.Omega.{arith}
 use Rattle.monitor_give_take.proofs.do_give.Statement.{statement}
 use Rattle.monitor_give_take.proofs.do_give.Tie as tie
 
 clear-frame-requires : tie.Need-clear-frame-requires
-clear-frame-requires c κs = (omega (arith, (give-low (c .before .before .before .pre .0) (c .before .before .before .args .f) (c .before .before .before .args .g) (c .before .before .before .pre .1)), c .before .before .before .pre .0 .stock .few), within (c .before .before .before .args .ram .now) (c .before .before .before .args .ledger .now) (c .before .before .before .pre .0) (c .before .before .before .args .f) ((give-low (c .before .before .before .pre .0) (c .before .before .before .args .f) (c .before .before .before .args .g) (c .before .before .before .pre .1))))
+clear-frame-requires c κs = (omega (arith, (give-low (c .before .before .before .pre .0) (c .before .before .before .args .f) (c .before .before .before .args .g) (c .before .before .before .pre .1)), c .before .before .before .pre .0 .ledger-sound .few), within (c .before .before .before .args .ram .now) (c .before .before .before .args .ledger .now) (c .before .before .before .pre .0) (c .before .before .before .args .f) ((give-low (c .before .before .before .pre .0) (c .before .before .before .args .f) (c .before .before .before .args .g) (c .before .before .before .pre .1))))
 
 become-page-requires : tie.Need-become-page-requires
-become-page-requires c κs = (c .before .before .before .before .before .before .before .pre .0 .stock, ((give-low (c .before .before .before .before .before .before .before .pre .0) (c .before .before .before .before .before .before .before .args .f) (c .before .before .before .before .before .before .before .args .g) (c .before .before .before .before .before .before .before .pre .1)), (give-free (c .before .before .before .before .before .before .before .pre .0) (c .before .before .before .before .before .before .before .args .f) (c .before .before .before .before .before .before .before .args .g) (c .before .before .before .before .before .before .before .pre .1), give-guest (c .before .before .before .before .before .before .before .pre .0) (c .before .before .before .before .before .before .before .args .f) (c .before .before .before .before .before .before .before .args .g) (c .before .before .before .before .before .before .before .pre .1))))
+become-page-requires c κs = (c .before .before .before .before .before .before .before .pre .0 .ledger-sound, ((give-low (c .before .before .before .before .before .before .before .pre .0) (c .before .before .before .before .before .before .before .args .f) (c .before .before .before .before .before .before .before .args .g) (c .before .before .before .before .before .before .before .pre .1)), (give-free (c .before .before .before .before .before .before .before .pre .0) (c .before .before .before .before .before .before .before .args .f) (c .before .before .before .before .before .before .before .args .g) (c .before .before .before .before .before .before .before .pre .1), give-guest (c .before .before .before .before .before .before .before .pre .0) (c .before .before .before .before .before .before .before .args .f) (c .before .before .before .before .before .before .before .args .g) (c .before .before .before .before .before .before .before .pre .1))))
 
 clear-shares-requires : tie.Need-clear-shares-requires
-clear-shares-requires c κs = (c .before .before .before .become-page .ensures .changes .stock, taken-low (c .before .before .before .become-page .ensures) (c .before .before .before .before .before .before .before .before .before .before .before .args .f) ((give-low (c .before .before .before .before .before .before .before .before .before .before .before .pre .0) (c .before .before .before .before .before .before .before .before .before .before .before .args .f) (c .before .before .before .before .before .before .before .before .before .before .before .args .g) (c .before .before .before .before .before .before .before .before .before .before .before .pre .1))))
+clear-shares-requires c κs = (c .before .before .before .become-page .ensures .changes .ledger-sound, taken-low (c .before .before .before .become-page .ensures) (c .before .before .before .before .before .before .before .before .before .before .before .args .f) ((give-low (c .before .before .before .before .before .before .before .before .before .before .before .pre .0) (c .before .before .before .before .before .before .before .before .before .before .before .args .f) (c .before .before .before .before .before .before .before .before .before .before .before .args .g) (c .before .before .before .before .before .before .before .before .before .before .before .pre .1))))
 
 same-length : tie.Need-same-length
 same-length c = search needs

@@ -3,8 +3,8 @@
 use mathlib.Core.Path.{refl}
 use mathlib.Core.Logic.{inl, inr}
 use Rattle.model.specs.Operations.{invalidated}
-use Rattle.ledger.specs.Laws.{guest-is}
-use Rattle.monitor_contract.specs.Answers.{stops, goes-on, no-guest}
+use Rattle.ledger.proofs.Laws.Fields.{guest-is}
+use Rattle.monitor_contract.proofs.Laws.Answers.{stops, goes-on, no-guest}
 use Rattle.monitor_invalidated.proofs.check_invalidated.Statement.{statement}
 use Rattle.monitor_invalidated.proofs.check_invalidated.Tie as tie
 

@@ -1,7 +1,7 @@
 -- Written by tools/prove from the file answers beside it: edit that, and not this.
 -- Check, then do.
 use mathlib.Core.Path.{_∙_, sym}
-use Rattle.monitor_contract.specs.Answers.{refused, answered}
+use Rattle.monitor_contract.proofs.Laws.Answers.{refused, answered}
 use borrow.Author.Needs.{needs}
 use Rattle.monitor_invalidated.proofs.invalidated.Statement.{statement}
 use Rattle.monitor_invalidated.proofs.invalidated.Tie as tie

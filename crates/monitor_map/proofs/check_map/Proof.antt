@@ -2,27 +2,27 @@
 -- Check by check, in the order of the definition.
 use mathlib.Core.Path.{_∙_, ap, refl, sym}
 use mathlib.Core.Bool.{not}
-use Rattle.model.specs.Base.{not-true}
+use Rattle.model.proofs.Laws.Base.{not-true}
 use Rattle.model.specs.Operations.{may-map}
 use Rattle.ledger.specs.Layout.{size-of, state-in}
-use Rattle.ledger.specs.Laws.{guest-low}
-use Rattle.ledger.specs.Sound.{guest-there}
+use Rattle.ledger.proofs.Laws.Fields.{guest-low}
+use Rattle.ledger.proofs.Laws.Sound.{guest-there}
 use borrow.Author.Tests.{not-false, lt-ltb, le-ltb}
-use Rattle.monitor_contract.specs.Answers.{stops, goes-on}
+use Rattle.monitor_contract.proofs.Laws.Answers.{stops, goes-on}
 use borrow.Author.Needs.{needs}
 use native.Mathlib.Omega.{arith}
 use Rattle.monitor_map.proofs.check_map.Statement.{statement}
 use Rattle.monitor_map.proofs.check_map.Tie as tie
 
 exists-requires : tie.Need-exists-requires
-exists-requires c κs = c .before .before .pre .stock
+exists-requires c κs = c .before .before .pre .ledger-sound
 
 returns : tie.Need-returns
 unfolding state-in may-map
 returns c = stops _ 5 _ (sym (c .before .exists .ensures) ∙ not-true _ (c .if1 .taken))
 
 dirty-requires : tie.Need-dirty-requires
-dirty-requires c κs = (c .before .before .before .before .pre .stock, guest-low (c .before .before .before .before .args .g) (guest-there (c .before .before .before .before .args .ram .now) (c .before .before .before .before .args .ledger .now) (c .before .before .before .before .pre) (c .before .before .before .before .args .g) (sym (c .before .exists .ensures) ∙ not-false _ (c .if1 .left))) .1)
+dirty-requires c κs = (c .before .before .before .before .pre .ledger-sound, guest-low (c .before .before .before .before .args .g) (guest-there (c .before .before .before .before .args .ram .now) (c .before .before .before .before .args .ledger .now) (c .before .before .before .before .pre) (c .before .before .before .before .args .g) (sym (c .before .exists .ensures) ∙ not-false _ (c .if1 .left))) .1)
 
 returns-2 : tie.Need-returns-2
 unfolding state-in may-map
@@ -43,14 +43,14 @@ unfolding state-in may-map
 returns-4 c = (goes-on _ 5 _ (sym (c .before .before .before .before .before .before .before .exists .ensures) ∙ not-false _ (c .before .before .before .before .before .before .if1 .left))) ((goes-on _ 14 _ (ap not (sym (c .before .before .before .before .before .dirty .ensures) ∙ c .before .before .before .before .if2 .left))) ((goes-on _ 7 _ (sym (c .before .before .before .is-page-address .ensures) ∙ not-false _ (c .before .before .if3 .left))) (stops _ 8 _ (sym (c .before .has-rights .ensures) ∙ not-true _ (c .if4 .taken)))))
 
 size-requires : tie.Need-size-requires
-size-requires c κs = c .before .before .before .before .before .before .before .before .before .before .pre .stock
+size-requires c κs = c .before .before .before .before .before .before .before .before .before .before .pre .ledger-sound
 
 returns-5 : tie.Need-returns-5
 unfolding state-in may-map
 returns-5 c = (goes-on _ 5 _ (sym (c .before .before .before .before .before .before .before .before .before .exists .ensures) ∙ not-false _ (c .before .before .before .before .before .before .before .before .if1 .left))) ((goes-on _ 14 _ (ap not (sym (c .before .before .before .before .before .before .before .dirty .ensures) ∙ c .before .before .before .before .before .before .if2 .left))) ((goes-on _ 7 _ (sym (c .before .before .before .before .before .is-page-address .ensures) ∙ not-false _ (c .before .before .before .before .if3 .left))) ((goes-on _ 8 _ (sym (c .before .before .before .has-rights .ensures) ∙ not-false _ (c .before .before .if4 .left))) (stops _ 4 _ (le-ltb (c .before .before .before .before .before .before .before .before .before .before .before .before .args .f) (size-of (c .before .before .before .before .before .before .before .before .before .before .before .before .args .ledger .now)) (omega (arith, c .before .size .ensures .0, c .if5 .taken)))))))
 
 may-map-requires : tie.Need-may-map-requires
-may-map-requires c κs = (c .before .before .before .before .before .before .before .before .before .before .before .before .pre .stock, ((omega (arith, c .before .size .ensures .0, c .if5 .left)), (guest-there (c .before .before .before .before .before .before .before .before .before .before .before .before .args .ram .now) (c .before .before .before .before .before .before .before .before .before .before .before .before .args .ledger .now) (c .before .before .before .before .before .before .before .before .before .before .before .before .pre) (c .before .before .before .before .before .before .before .before .before .before .before .before .args .g) (sym (c .before .before .before .before .before .before .before .before .before .exists .ensures) ∙ not-false _ (c .before .before .before .before .before .before .before .before .if1 .left)))))
+may-map-requires c κs = (c .before .before .before .before .before .before .before .before .before .before .before .before .pre .ledger-sound, ((omega (arith, c .before .size .ensures .0, c .if5 .left)), (guest-there (c .before .before .before .before .before .before .before .before .before .before .before .before .args .ram .now) (c .before .before .before .before .before .before .before .before .before .before .before .before .args .ledger .now) (c .before .before .before .before .before .before .before .before .before .before .before .before .pre) (c .before .before .before .before .before .before .before .before .before .before .before .before .args .g) (sym (c .before .before .before .before .before .before .before .before .before .exists .ensures) ∙ not-false _ (c .before .before .before .before .before .before .before .before .if1 .left)))))
 
 returns-6 : tie.Need-returns-6
 unfolding state-in may-map

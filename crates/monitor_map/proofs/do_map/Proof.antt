@@ -1,8 +1,9 @@
 -- Written by tools/prove from the file answers beside it: edit that, and not this.
 -- The missing tables are made, from the highest on; then the entry is written and the place counted.
 use Prim.Native.Nat.{_/_}
-use Rattle.monitor_tables.specs.NewTable.{grow-guest, grow-words, grow-room}
-use Rattle.monitor_map.specs.Map.{Filling, fill-start, fill-more, fill-low, fill-count, map-end}
+use Rattle.monitor_tables.proofs.Laws.NewTable.{grow-guest, grow-words, grow-room}
+use Rattle.monitor_map.specs.Map.{Filling}
+use Rattle.monitor_map.proofs.Laws.Map.{fill-start, fill-more, fill-low, fill-count, map-end}
 use borrow.Author.Needs.{needs}
 use native.Mathlib.Omega.{arith}
 use Rattle.monitor_map.proofs.do_map.Statement.{statement}
@@ -30,7 +31,7 @@ loop-again : tie.Need-loop-again Inv-loop μ-loop
 loop-again c = fill-more (c .before .before .before .before .before .before .before .before .before .before .before .pre .0) (c .before .before .before .before .before .before .before .before .before .before .before .pre .1) (c .before .before .before .before .before .before .before .before .loop .inv) (c .before .before .before .before .make-table .ensures) (omega (arith, c .before .before .before .before .make-table .kept)) (omega (arith, c .before .before .before .before .make-table .kept))
 
 first-requires : tie.Need-first-requires Inv-loop μ-loop
-first-requires c κs = c .before .before .loop .inv .growing .sound .stock
+first-requires c κs = c .before .before .loop .inv .growing .sound .ledger-sound
 
 entry-of-page-requires : tie.Need-entry-of-page-requires Inv-loop μ-loop
 entry-of-page-requires c κs = grow-room (c .before .before .before .loop .inv .growing) (c .first .result) (c .before .before .before .before .before .before .args .f) (c .first .ensures) (fill-low (c .before .before .before .before .before .before .pre .0) (c .before .before .before .before .before .before .pre .1) (c .before .before .before .loop .inv))
@@ -40,13 +41,13 @@ store-entry-requires c κs = let k = grow-words (c .before .before .before .befo
     (omega arith, k .0, k .1)
 
 count-requires : tie.Need-count-requires Inv-loop μ-loop
-count-requires c κs = (c .before .before .before .before .before .before .before .before .before .loop .inv .growing .sound .stock, ((fill-low (c .before .before .before .before .before .before .before .before .before .before .before .before .pre .0) (c .before .before .before .before .before .before .before .before .before .before .before .before .pre .1) (c .before .before .before .before .before .before .before .before .before .loop .inv)), (grow-guest (c .before .before .before .before .before .before .before .before .before .loop .inv .growing))))
+count-requires c κs = (c .before .before .before .before .before .before .before .before .before .loop .inv .growing .sound .ledger-sound, ((fill-low (c .before .before .before .before .before .before .before .before .before .before .before .before .pre .0) (c .before .before .before .before .before .before .before .before .before .before .before .before .pre .1) (c .before .before .before .before .before .before .before .before .before .loop .inv)), (grow-guest (c .before .before .before .before .before .before .before .before .before .loop .inv .growing))))
 
 add-set-count : tie.Need-add-set-count Inv-loop μ-loop
 add-set-count c = omega (arith, (fill-count (c .before .before .before .before .before .before .before .before .before .before .before .before .before .before .pre .0) (c .before .before .before .before .before .before .before .before .before .before .before .before .before .before .pre .1) (c .before .before .before .before .before .before .before .before .before .before .before .loop .inv) (c .before .count .result) (c .before .count .ensures)))
 
 set-count-requires : tie.Need-set-count-requires Inv-loop μ-loop
-set-count-requires c κs = (c .before .before .before .before .before .before .before .before .before .before .before .loop .inv .growing .sound .stock, ((fill-low (c .before .before .before .before .before .before .before .before .before .before .before .before .before .before .pre .0) (c .before .before .before .before .before .before .before .before .before .before .before .before .before .before .pre .1) (c .before .before .before .before .before .before .before .before .before .before .before .loop .inv)), ((grow-guest (c .before .before .before .before .before .before .before .before .before .before .before .loop .inv .growing)), (fill-count (c .before .before .before .before .before .before .before .before .before .before .before .before .before .before .pre .0) (c .before .before .before .before .before .before .before .before .before .before .before .before .before .before .pre .1) (c .before .before .before .before .before .before .before .before .before .before .before .loop .inv) (c .before .count .result) (c .before .count .ensures)))))
+set-count-requires c κs = (c .before .before .before .before .before .before .before .before .before .before .before .loop .inv .growing .sound .ledger-sound, ((fill-low (c .before .before .before .before .before .before .before .before .before .before .before .before .before .before .pre .0) (c .before .before .before .before .before .before .before .before .before .before .before .before .before .before .pre .1) (c .before .before .before .before .before .before .before .before .before .before .before .loop .inv)), ((grow-guest (c .before .before .before .before .before .before .before .before .before .before .before .loop .inv .growing)), (fill-count (c .before .before .before .before .before .before .before .before .before .before .before .before .before .before .pre .0) (c .before .before .before .before .before .before .before .before .before .before .before .before .before .before .pre .1) (c .before .before .before .before .before .before .before .before .before .before .before .loop .inv) (c .before .count .result) (c .before .count .ensures)))))
 
 same-length : tie.Need-same-length Inv-loop μ-loop
 same-length c = omega (arith, c .before .before .before .before .before .before .before .before .store-entry .kept, c .before .before .set-count .kept, c .before .before .before .before .before .before .before .before .before .before .before .before .before .before .loop .inv .ram-same, c .before .before .before .before .before .before .before .before .before .before .before .before .before .before .loop .inv .ledger-same)

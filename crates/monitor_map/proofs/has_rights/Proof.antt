@@ -1,6 +1,6 @@
 -- Written by tools/prove from the file answers beside it: edit that, and not this.
 -- Test by test.
-use Rattle.monitor_map.specs.Map.{rights-last}
+use Rattle.monitor_map.proofs.Laws.Map.{rights-last}
 use borrow.Author.Tests.{eq-eqb, ne-eqb}
 use Rattle.monitor_map.proofs.has_rights.Statement.{statement}
 use Rattle.monitor_map.proofs.has_rights.Tie as tie

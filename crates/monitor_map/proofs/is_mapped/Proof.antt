@@ -1,7 +1,7 @@
 -- Written by tools/prove from the file answers beside it: edit that, and not this.
 -- An entry that is not 0, in a last table.
-use Rattle.monitor_descent.specs.Way.{way-words}
-use Rattle.monitor_map.specs.Map.{mapped-above, mapped-not, mapped-here}
+use Rattle.monitor_descent.proofs.Laws.Way.{way-words}
+use Rattle.monitor_map.proofs.Laws.Map.{mapped-above, mapped-not, mapped-here}
 use native.Mathlib.Omega.{arith}
 use Rattle.monitor_map.proofs.is_mapped.Statement.{statement}
 use Rattle.monitor_map.proofs.is_mapped.Tie as tie

@@ -1,9 +1,9 @@
 -- Written by tools/prove from the file answers beside it: edit that, and not this.
 -- A page of its own, or a page that is shared so.
 use mathlib.Core.Path.{_∙_, sym}
-use Rattle.model.specs.Base.{not-true}
+use Rattle.model.proofs.Laws.Base.{not-true}
 use borrow.Author.Tests.{not-false}
-use Rattle.monitor_map.specs.Map.{allows-own, allows-none, allows-shared}
+use Rattle.monitor_map.proofs.Laws.Map.{allows-own, allows-none, allows-shared}
 use borrow.Author.Needs.{needs}
 use Rattle.monitor_map.proofs.may_map.Statement.{statement}
 use Rattle.monitor_map.proofs.may_map.Tie as tie

@@ -1,6 +1,6 @@
 -- Written by tools/prove from the file answers beside it: edit that, and not this.
 -- Test by test.
-use Rattle.monitor_map.specs.Map.{shares-none, shares-run, shares-read, shares-write}
+use Rattle.monitor_map.proofs.Laws.Map.{shares-none, shares-run, shares-read, shares-write}
 use Rattle.monitor_map.proofs.shares.Statement.{statement}
 use Rattle.monitor_map.proofs.shares.Tie as tie
 

@@ -3,8 +3,8 @@
 use mathlib.Core.Path.{_∙_}
 use mathlib.Core.Logic.{inl, inr}
 use Rattle.ledger.specs.Layout.{size-of, state-in}
-use Rattle.ledger.specs.Laws.{guest-is}
-use Rattle.monitor_contract.specs.Answers.{no-guest}
+use Rattle.ledger.proofs.Laws.Fields.{guest-is}
+use Rattle.monitor_contract.proofs.Laws.Answers.{no-guest}
 use Rattle.monitor_query.specs.Questions.{share-told}
 use native.Mathlib.Omega.{arith}
 use borrow.Author.Tests.{lt-ltb, le-ltb}
@@ -12,7 +12,7 @@ use Rattle.monitor_query.proofs.shared_with.Statement.{statement}
 use Rattle.monitor_query.proofs.shared_with.Tie as tie
 
 size-requires : tie.Need-size-requires
-size-requires c κs = c .before .before .pre .stock
+size-requires c κs = c .before .before .pre .ledger-sound
 
 returns : tie.Need-returns
 unfolding share-told state-in
@@ -27,7 +27,7 @@ unfolding share-told state-in
 returns-3 c = rw ((lt-ltb (c .before .before .before .before .before .before .args .f) (size-of (c .before .before .before .before .before .before .args .ledger .now)) ((omega (arith, c .before .before .before .size .ensures .0, c .before .before .if1 .left)))), no-guest (c .before .before .before .before .before .before .args .h) (inr (c .if3 .taken)))
 
 share-requires : tie.Need-share-requires
-share-requires c κs = (c .before .before .before .before .before .before .pre .stock, ((omega (arith, c .before .before .before .size .ensures .0, c .before .before .if1 .left)), guest-is (c .before .before .before .before .before .before .args .h) (c .before .if2 .left) (c .if3 .left)))
+share-requires c κs = (c .before .before .before .before .before .before .pre .ledger-sound, ((omega (arith, c .before .before .before .size .ensures .0, c .before .before .if1 .left)), guest-is (c .before .before .before .before .before .before .args .h) (c .before .if2 .left) (c .if3 .left)))
 
 returns-4 : tie.Need-returns-4
 unfolding share-told state-in

@@ -1,20 +1,21 @@
 -- Written by tools/prove from the file answers beside it: edit that, and not this.
 -- The walk of stage 2 from the root, where there is one.
 use mathlib.Core.Path.{_∙_, sym}
-use Rattle.monitor_query.specs.Questions.{translated, first-room}
+use Rattle.monitor_query.specs.Questions.{translated}
+use Rattle.monitor_query.proofs.Laws.Questions.{first-room}
 use borrow.Author.Needs.{needs}
 use native.Mathlib.Omega.{arith}
 use Rattle.monitor_query.proofs.translation.Statement.{statement}
 use Rattle.monitor_query.proofs.translation.Tie as tie
 
 exists-requires : tie.Need-exists-requires
-exists-requires c κs = c .before .before .pre .stock
+exists-requires c κs = c .before .before .pre .ledger-sound
 
 size-requires : tie.Need-size-requires
-size-requires c κs = c .before .before .before .before .pre .stock
+size-requires c κs = c .before .before .before .before .pre .ledger-sound
 
 first-requires : tie.Need-first-requires
-first-requires c κs = c .before .before .before .before .before .pre .stock
+first-requires c κs = c .before .before .before .before .before .pre .ledger-sound
 
 root-address-requires : tie.Need-root-address-requires
 root-address-requires c κs = (c .before .before .before .before .before .before .pre, sym (c .before .before .before .exists .ensures) ∙ c .before .before .if1 .taken)

@@ -3,24 +3,25 @@
 use mathlib.Core.Path.{_∙_}
 use Rattle.ledger.specs.Layout.{size-of, state-in}
 use Rattle.monitor_query.specs.declared.FrameKind.the-variants.{Monitor, Free, Table, Draining, Page}
-use Rattle.monitor_query.specs.Questions.{frame-told, by-number, frame-here}
+use Rattle.monitor_query.specs.Questions.{frame-told, by-number}
+use Rattle.monitor_query.proofs.Laws.Questions.{frame-here}
 use native.Mathlib.Omega.{arith}
 use borrow.Author.Tests.{lt-ltb, lt-leb, le-ltb, eq-eqb, ne-eqb}
 use Rattle.monitor_query.proofs.what_frame.Statement.{statement}
 use Rattle.monitor_query.proofs.what_frame.Tie as tie
 
 size-requires : tie.Need-size-requires
-size-requires c κs = c .before .before .pre .stock
+size-requires c κs = c .before .before .pre .ledger-sound
 
 returns : tie.Need-returns
 unfolding frame-told state-in
 returns c = rw (le-ltb (c .before .before .before .before .args .f) (size-of (c .before .before .before .before .args .ledger .now)) (omega (arith, c .before .size .ensures .0, c .if1 .taken)))
 
 kind-requires : tie.Need-kind-requires
-kind-requires c κs = (c .before .before .before .before .pre .stock, (omega (arith, c .before .size .ensures .0, c .if1 .left)))
+kind-requires c κs = (c .before .before .before .before .pre .ledger-sound, (omega (arith, c .before .size .ensures .0, c .if1 .left)))
 
 owner-requires : tie.Need-owner-requires
-owner-requires c κs = (c .before .before .before .before .before .pre .stock, (omega (arith, c .before .before .size .ensures .0, c .before .if1 .left)))
+owner-requires c κs = (c .before .before .before .before .before .pre .ledger-sound, (omega (arith, c .before .before .size .ensures .0, c .before .if1 .left)))
 
 returns-2 : tie.Need-returns-2
 unfolding by-number
@@ -50,7 +51,7 @@ returns-4 c = frame-here _ _ _ _ _ (Table (c .before .before .before .owner .res
 ))
 
 uses-requires : tie.Need-uses-requires
-uses-requires c κs = (c .before .before .before .before .before .before .before .before .before .before .pre .stock, (omega (arith, c .before .before .before .before .before .before .before .size .ensures .0, c .before .before .before .before .before .before .if1 .left)))
+uses-requires c κs = (c .before .before .before .before .before .before .before .before .before .before .pre .ledger-sound, (omega (arith, c .before .before .before .before .before .before .before .size .ensures .0, c .before .before .before .before .before .before .if1 .left)))
 
 returns-5 : tie.Need-returns-5
 unfolding by-number

@@ -3,8 +3,8 @@
 use mathlib.Core.Path.{_∙_, sym}
 use mathlib.Core.Logic.{inl, inr}
 use Rattle.ledger.specs.Layout.{state-in}
-use Rattle.ledger.specs.Laws.{guest-is}
-use Rattle.monitor_contract.specs.Answers.{no-guest}
+use Rattle.ledger.proofs.Laws.Fields.{guest-is}
+use Rattle.monitor_contract.proofs.Laws.Answers.{no-guest}
 use Rattle.monitor_query.specs.Questions.{guest-told}
 use native.Mathlib.Omega.{arith}
 use Rattle.monitor_query.proofs.what_guest.Statement.{statement}
@@ -19,10 +19,10 @@ unfolding guest-told state-in
 returns-2 c = rw (no-guest (c .before .before .before .before .args .g) (inr (c .if2 .taken)))
 
 dirty-requires : tie.Need-dirty-requires
-dirty-requires c κs = (c .before .before .before .before .pre .stock, omega (arith, c .if2 .left))
+dirty-requires c κs = (c .before .before .before .before .pre .ledger-sound, omega (arith, c .if2 .left))
 
 exists-requires : tie.Need-exists-requires
-exists-requires c κs = c .before .before .before .before .before .pre .stock
+exists-requires c κs = c .before .before .before .before .before .pre .ledger-sound
 
 root-address-requires : tie.Need-root-address-requires
 root-address-requires c κs = (c .before .before .before .before .before .before .before .pre, sym (c .before .exists .ensures) ∙ c .if3 .taken)

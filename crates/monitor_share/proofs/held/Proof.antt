@@ -1,6 +1,6 @@
 -- Written by tools/prove from the file answers beside it: edit that, and not this.
 -- By cases.
-use Rattle.ledger.specs.Laws.{guest-low}
+use Rattle.ledger.proofs.Laws.Fields.{guest-low}
 use Rattle.monitor_share.specs.Share.{held-back}
 use mathlib.Core.Path.{sym}
 use borrow.Author.Tests.{eq-eqb, ne-eqb}

@@ -1,8 +1,8 @@
 -- Written by tools/prove from the file answers beside it: edit that, and not this.
 -- Check, then do.
 use mathlib.Core.Path.{_∙_, sym}
-use Rattle.monitor_contract.specs.Answers.{refused, answered}
-use Rattle.monitor_share.specs.Share.{extent-low, share-owned, share-end}
+use Rattle.monitor_contract.proofs.Laws.Answers.{refused, answered}
+use Rattle.monitor_share.proofs.Laws.Share.{extent-low, share-owned, share-end}
 use borrow.Author.Needs.{needs}
 use Rattle.monitor_share.proofs.share.Statement.{statement}
 use Rattle.monitor_share.proofs.share.Tie as tie
@@ -20,7 +20,7 @@ rights-requires : tie.Need-rights-requires
 rights-requires c κs = search needs
 
 set-share-requires : tie.Need-set-share-requires
-set-share-requires c κs = (c .before .before .before .before .before .before .before .pre .stock, ((share-owned (c .before .before .before .before .before .before .before .pre) (c .before .before .before .before .before .before .before .args .g) (c .before .before .before .before .before .before .before .args .f) (c .before .before .before .before .before .before .before .args .h) (c .before .before .before .before .before .before .before .args .w) ((sym (c .before .before .before .check-share .ensures) ∙ c .before .before .if1 .left))) .low, ((share-owned (c .before .before .before .before .before .before .before .pre) (c .before .before .before .before .before .before .before .args .g) (c .before .before .before .before .before .before .before .args .f) (c .before .before .before .before .before .before .before .args .h) (c .before .before .before .before .before .before .before .args .w) ((sym (c .before .before .before .check-share .ensures) ∙ c .before .before .if1 .left))) .there, extent-low (c .before .before .before .before .before .before .before .args .w) (c .rights .result) (c .rights .ensures))))
+set-share-requires c κs = (c .before .before .before .before .before .before .before .pre .ledger-sound, ((share-owned (c .before .before .before .before .before .before .before .pre) (c .before .before .before .before .before .before .before .args .g) (c .before .before .before .before .before .before .before .args .f) (c .before .before .before .before .before .before .before .args .h) (c .before .before .before .before .before .before .before .args .w) ((sym (c .before .before .before .check-share .ensures) ∙ c .before .before .if1 .left))) .low, ((share-owned (c .before .before .before .before .before .before .before .pre) (c .before .before .before .before .before .before .before .args .g) (c .before .before .before .before .before .before .before .args .f) (c .before .before .before .before .before .before .before .args .h) (c .before .before .before .before .before .before .before .args .w) ((sym (c .before .before .before .check-share .ensures) ∙ c .before .before .if1 .left))) .there, extent-low (c .before .before .before .before .before .before .before .args .w) (c .rights .result) (c .rights .ensures))))
 
 same-length-2 : tie.Need-same-length-2
 same-length-2 c = search needs

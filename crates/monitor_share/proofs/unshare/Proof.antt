@@ -1,8 +1,8 @@
 -- Written by tools/prove from the file answers beside it: edit that, and not this.
 -- Check, then do.
 use mathlib.Core.Path.{_∙_, sym}
-use Rattle.monitor_contract.specs.Answers.{refused, answered}
-use Rattle.monitor_share.specs.Share.{unshare-owned, unshare-end}
+use Rattle.monitor_contract.proofs.Laws.Answers.{refused, answered}
+use Rattle.monitor_share.proofs.Laws.Share.{unshare-owned, unshare-end}
 use borrow.Author.Needs.{needs}
 use native.Mathlib.Omega.{arith}
 use Rattle.monitor_share.proofs.unshare.Statement.{statement}
@@ -18,7 +18,7 @@ returns : tie.Need-returns
 returns c = refused (c .before .before .before .before .before .pre) (c .before .check-unshare .ensures) (c .if1 .taken)
 
 set-share-requires : tie.Need-set-share-requires
-set-share-requires c κs = (c .before .before .before .before .before .before .pre .stock, ((unshare-owned (c .before .before .before .before .before .before .pre) (c .before .before .before .before .before .before .args .g) (c .before .before .before .before .before .before .args .f) (c .before .before .before .before .before .before .args .h) ((sym (c .before .before .check-unshare .ensures) ∙ c .before .if1 .left))) .low, ((unshare-owned (c .before .before .before .before .before .before .pre) (c .before .before .before .before .before .before .args .g) (c .before .before .before .before .before .before .args .f) (c .before .before .before .before .before .before .args .h) ((sym (c .before .before .check-unshare .ensures) ∙ c .before .if1 .left))) .there, omega arith)))
+set-share-requires c κs = (c .before .before .before .before .before .before .pre .ledger-sound, ((unshare-owned (c .before .before .before .before .before .before .pre) (c .before .before .before .before .before .before .args .g) (c .before .before .before .before .before .before .args .f) (c .before .before .before .before .before .before .args .h) ((sym (c .before .before .check-unshare .ensures) ∙ c .before .if1 .left))) .low, ((unshare-owned (c .before .before .before .before .before .before .pre) (c .before .before .before .before .before .before .args .g) (c .before .before .before .before .before .before .args .f) (c .before .before .before .before .before .before .args .h) ((sym (c .before .before .check-unshare .ensures) ∙ c .before .if1 .left))) .there, omega arith)))
 
 same-length-2 : tie.Need-same-length-2
 same-length-2 c = search needs

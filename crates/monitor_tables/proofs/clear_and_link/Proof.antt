@@ -1,6 +1,6 @@
 -- Written by tools/prove from the file answers beside it: edit that, and not this.
 -- No place is named here, so that each need is met from whatever is known where it stands: with the two calls exchanged, Blank is not.
-use Rattle.monitor_tables.specs.NewTable.{blank, then-linked}
+use Rattle.monitor_tables.proofs.Laws.NewTable.{blank, then-linked}
 use borrow.Author.Needs.{needs}
 use native.Mathlib.Omega.{arith}
 use Rattle.monitor_tables.proofs.clear_and_link.Statement.{statement}

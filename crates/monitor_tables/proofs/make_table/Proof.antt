@@ -1,8 +1,8 @@
 -- Written by tools/prove from the file answers beside it: edit that, and not this.
 -- A free frame becomes a table, is cleared, and is linked in.
-use Rattle.ledger.specs.Laws.{guest-low}
-use Rattle.ledger.specs.Sound.{within}
-use Rattle.monitor_tables.specs.NewTable.{grow-guest, grow-words, grow-range, make-placed, make-room, make-end}
+use Rattle.ledger.proofs.Laws.Fields.{guest-low}
+use Rattle.ledger.proofs.Laws.Sound.{within}
+use Rattle.monitor_tables.proofs.Laws.NewTable.{grow-guest, grow-words, grow-range, make-placed, make-room, make-end}
 use borrow.Author.Needs.{needs}
 use native.Mathlib.Omega.{arith}
 use Rattle.monitor_tables.proofs.make_table.Statement.{statement}
@@ -12,14 +12,14 @@ upper-requires : tie.Need-upper-requires
 upper-requires c κs = c .before .before .pre .0 .high
 
 next-requires : tie.Need-next-requires
-next-requires c κs = let k = c .before .before .before .before .pre .0 .enough in (c .before .before .before .before .pre .0 .sound .stock, omega (arith, c .before .before .before .before .pre .1))
+next-requires c κs = let k = c .before .before .before .before .pre .0 .enough in (c .before .before .before .before .pre .0 .sound .ledger-sound, omega (arith, c .before .before .before .before .pre .1))
 
 sub-become-table : tie.Need-sub-become-table
 sub-become-table c = omega (arith, c .before .before .before .before .before .before .pre .1)
 
 become-table-requires : tie.Need-become-table-requires
 become-table-requires c κs = let k = c .before .before .before .before .before .before .pre .0 .high in (
-  c .before .before .before .before .before .before .pre .0 .sound .stock,
+  c .before .before .before .before .before .before .pre .0 .sound .ledger-sound,
   (
     c .before .next .ensures .1,
     (
@@ -30,11 +30,11 @@ become-table-requires c κs = let k = c .before .before .before .before .before 
 )
 
 clear-and-link-requires : tie.Need-clear-and-link-requires
-clear-and-link-requires c κs = let few = c .before .before .before .before .before .before .before .before .before .before .before .pre .0 .sound .stock .few in
+clear-and-link-requires c κs = let few = c .before .before .before .before .before .before .before .before .before .before .before .pre .0 .sound .ledger-sound .few in
     let k = grow-words (c .before .before .before .before .before .before .before .before .before .before .before .pre .0) in (
       make-placed (c .before .before .before .before .before .before .before .before .before .before .before .pre .0) (c .before .before .before .before .before .before .before .before .before .before .before .pre .1) (c .before .before .before .before .before .before .before .before .upper .ensures) (c .before .before .before .before .before .before .next .ensures .1) (c .before .before .before .before .before .before .next .ensures .2) (c .before .before .before .before .become-table .ensures),
       (
-        c .before .before .before .before .become-table .ensures .changes .stock,
+        c .before .before .before .before .become-table .ensures .changes .ledger-sound,
         (
           k,
           ((omega (arith, c .before .before .before .before .before .before .next .ensures .1), within (c .before .before .before .before .before .before .before .before .before .before .before .args .ram .now) (c .before .before .before .before .before .before .before .before .before .before .before .args .ledger .now) (c .before .before .before .before .before .before .before .before .before .before .before .pre .0 .sound) (c .before .before .before .before .before .before .next .result) (c .before .before .before .before .before .before .next .ensures .1)), make-room (c .before .before .before .before .before .before .before .before .before .before .before .pre .0) (c .before .before .before .before .before .before .before .before .before .before .before .pre .1) (c .before .before .before .before .before .before .before .before .upper .ensures) (c .before .before .before .before .before .before .next .ensures .1) (c .before .before .before .before .before .before .next .ensures .2) (c .before .before .before .before .become-table .ensures)),

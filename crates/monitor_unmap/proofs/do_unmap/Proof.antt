@@ -1,7 +1,7 @@
 -- Written by tools/prove from the file answers beside it: edit that, and not this.
 -- The entry is emptied, the count falls, and the guest is dirty.
-use Rattle.ledger.specs.Laws.{guest-low}
-use Rattle.monitor_unmap.specs.Unmap.{unmap-guest, unmap-words, unmap-low, unmap-count, unmap-end}
+use Rattle.ledger.proofs.Laws.Fields.{guest-low}
+use Rattle.monitor_unmap.proofs.Laws.Unmap.{unmap-guest, unmap-words, unmap-low, unmap-count, unmap-end}
 use borrow.Author.Needs.{needs}
 use native.Mathlib.Omega.{arith}
 use Rattle.monitor_unmap.proofs.do_unmap.Statement.{statement}
@@ -12,16 +12,16 @@ store-entry-requires c κs = let k = unmap-words (c .before .before .before .pre
     (omega arith, k .0, k .1)
 
 count-requires : tie.Need-count-requires
-count-requires c κs = (c .before .before .before .before .before .before .before .pre .0 .stock, ((unmap-low (c .before .before .before .before .before .before .before .pre .0) (c .before .before .before .before .before .before .before .pre .1)), (unmap-guest (c .before .before .before .before .before .before .before .pre .0) (c .before .before .before .before .before .before .before .pre .1))))
+count-requires c κs = (c .before .before .before .before .before .before .before .pre .0 .ledger-sound, ((unmap-low (c .before .before .before .before .before .before .before .pre .0) (c .before .before .before .before .before .before .before .pre .1)), (unmap-guest (c .before .before .before .before .before .before .before .pre .0) (c .before .before .before .before .before .before .before .pre .1))))
 
 sub-set-count : tie.Need-sub-set-count
 sub-set-count c = (unmap-count (c .before .before .before .before .before .before .before .before .before .pre .0) (c .before .before .before .before .before .before .before .before .before .pre .1) (c .before .count .result) (c .before .count .ensures)) .0
 
 set-count-requires : tie.Need-set-count-requires
-set-count-requires c κs = (c .before .before .before .before .before .before .before .before .before .pre .0 .stock, ((unmap-low (c .before .before .before .before .before .before .before .before .before .pre .0) (c .before .before .before .before .before .before .before .before .before .pre .1)), ((unmap-guest (c .before .before .before .before .before .before .before .before .before .pre .0) (c .before .before .before .before .before .before .before .before .before .pre .1)), omega (arith, (unmap-count (c .before .before .before .before .before .before .before .before .before .pre .0) (c .before .before .before .before .before .before .before .before .before .pre .1) (c .before .count .result) (c .before .count .ensures)) .1))))
+set-count-requires c κs = (c .before .before .before .before .before .before .before .before .before .pre .0 .ledger-sound, ((unmap-low (c .before .before .before .before .before .before .before .before .before .pre .0) (c .before .before .before .before .before .before .before .before .before .pre .1)), ((unmap-guest (c .before .before .before .before .before .before .before .before .before .pre .0) (c .before .before .before .before .before .before .before .before .before .pre .1)), omega (arith, (unmap-count (c .before .before .before .before .before .before .before .before .before .pre .0) (c .before .before .before .before .before .before .before .before .before .pre .1) (c .before .count .result) (c .before .count .ensures)) .1))))
 
 set-dirty-requires : tie.Need-set-dirty-requires
-set-dirty-requires c κs = (c .before .before .before .set-count .ensures .stock, (guest-low (c .before .before .before .before .before .before .before .before .before .before .before .before .before .args .g) (unmap-guest (c .before .before .before .before .before .before .before .before .before .before .before .before .before .pre .0) (c .before .before .before .before .before .before .before .before .before .before .before .before .before .pre .1)) .1, omega arith))
+set-dirty-requires c κs = (c .before .before .before .set-count .ensures .ledger-sound, (guest-low (c .before .before .before .before .before .before .before .before .before .before .before .before .before .args .g) (unmap-guest (c .before .before .before .before .before .before .before .before .before .before .before .before .before .pre .0) (c .before .before .before .before .before .before .before .before .before .before .before .before .before .pre .1)) .1, omega arith))
 
 same-length : tie.Need-same-length
 same-length c = search needs

@@ -1,19 +1,19 @@
 -- Written by tools/prove from the file answers beside it: edit that, and not this.
 -- Check by check, in the order of the definition.
 use mathlib.Core.Path.{_∙_, sym}
-use Rattle.model.specs.Base.{not-true}
-use Rattle.model.specs.Invariant.MapUnmap.{address-low}
+use Rattle.model.proofs.Laws.Base.{not-true}
+use Rattle.model.proofs.Invariant.MapUnmap.{address-low}
 use Rattle.ledger.specs.Layout.{state-in, state-of}
 use borrow.Author.Tests.{not-false}
-use Rattle.monitor_descent.specs.Way.{way-words}
-use Rattle.monitor_unmap.specs.Unmap.{unmap-5, unmap-7, plan-above, plan-empty, plan-slot}
+use Rattle.monitor_descent.proofs.Laws.Way.{way-words}
+use Rattle.monitor_unmap.proofs.Laws.Unmap.{unmap-5, unmap-7, plan-above, plan-empty, plan-slot}
 use borrow.Author.Needs.{needs}
 use native.Mathlib.Omega.{arith}
 use Rattle.monitor_unmap.proofs.plan_unmap.Statement.{statement}
 use Rattle.monitor_unmap.proofs.plan_unmap.Tie as tie
 
 exists-requires : tie.Need-exists-requires
-exists-requires c κs = c .before .before .pre .stock
+exists-requires c κs = c .before .before .pre .ledger-sound
 
 returns : tie.Need-returns
 unfolding state-in
@@ -40,7 +40,7 @@ returns-4 : tie.Need-returns-4
 returns-4 c = plan-empty (c .before .before .before .before .before .before .before .before .before .before .before .pre) (c .before .before .before .before .before .before .before .before .before .before .before .args .a) (c .before .before .before .before .before .before .before .before .before .before .before .args .g) (sym (c .before .before .before .before .before .before .before .before .exists .ensures) ∙ not-false _ (c .before .before .before .before .before .before .before .if1 .left)) (sym (c .before .before .before .before .before .before .is-page-address .ensures) ∙ not-false _ (c .before .before .before .before .before .if2 .left)) (c .before .before .before .before .descend .ensures) (c .before .before .if3 .left) (c .before .entry .result) (c .before .entry .ensures) (c .if4 .taken)
 
 first-requires : tie.Need-first-requires
-first-requires c κs = c .before .before .before .before .before .before .before .before .before .before .before .pre .stock
+first-requires c κs = c .before .before .before .before .before .before .before .before .before .before .before .pre .ledger-sound
 
 sub-t12 : tie.Need-sub-t12
 sub-t12 c = (plan-slot (c .before .before .before .before .before .before .before .before .before .before .before .before .pre) (c .before .before .before .before .before .before .before .before .before .before .before .before .args .a) (c .before .before .before .before .before .before .before .before .before .before .before .before .args .g) (sym (c .before .before .before .before .before .before .before .before .before .exists .ensures) ∙ not-false _ (c .before .before .before .before .before .before .before .before .if1 .left)) (sym (c .before .before .before .before .before .before .before .is-page-address .ensures) ∙ not-false _ (c .before .before .before .before .before .before .if2 .left)) (c .before .before .before .before .before .descend .ensures) (c .before .before .before .if3 .left) (c .before .before .entry .result) (c .before .before .entry .ensures) (c .before .if4 .left) (c .first .result) (c .first .ensures)) .0

@@ -3,8 +3,9 @@
 use mathlib.Core.Path.{subst}
 use Rattle.ledger.specs.Layout.{state-of}
 use Rattle.monitor_descent.specs.declared.Plan.{Plan}
-use Rattle.monitor_contract.specs.Answers.{answered, plan-refused}
-use Rattle.monitor_unmap.specs.Unmap.{UnmapPlan, unmap-nonzero, unmap-effect, unmap-found}
+use Rattle.monitor_contract.proofs.Laws.Answers.{answered, plan-refused}
+use Rattle.monitor_unmap.specs.Unmap.{Unmap-plan}
+use Rattle.monitor_unmap.proofs.Laws.Unmap.{unmap-nonzero, unmap-effect, unmap-found}
 use borrow.Author.Needs.{needs}
 use Rattle.monitor_unmap.proofs.unmap.Statement.{statement}
 use Rattle.monitor_unmap.proofs.unmap.Tie as tie
@@ -19,7 +20,7 @@ enum-known-plan-2 : tie.Need-enum-known-plan-2
 enum-known-plan-2 c = search needs
 
 do-unmap-requires : tie.Need-do-unmap-requires
-do-unmap-requires c κs = (c .before .before .before .before .before .before .before .before .before .before .pre, subst (λ (p : Plan). UnmapPlan (state-of (c .before .before .before .before .before .before .before .before .before .before .args .ram .now) (c .before .before .before .before .before .before .before .before .before .before .args .ledger .now)) (c .before .before .before .before .before .before .before .before .before .before .args .a) (c .before .before .before .before .before .before .before .before .before .before .args .g) p) (c .before .before .before .plan2 .given .1) (c .before .before .before .before .before .plan-unmap .ensures))
+do-unmap-requires c κs = (c .before .before .before .before .before .before .before .before .before .before .pre, subst (λ (p : Plan). Unmap-plan (state-of (c .before .before .before .before .before .before .before .before .before .before .args .ram .now) (c .before .before .before .before .before .before .before .before .before .before .args .ledger .now)) (c .before .before .before .before .before .before .before .before .before .before .args .a) (c .before .before .before .before .before .before .before .before .before .before .args .g) p) (c .before .before .before .plan2 .given .1) (c .before .before .before .before .before .plan-unmap .ensures))
 
 same-length : tie.Need-same-length
 same-length c = search needs
@@ -28,7 +29,7 @@ same-length-2 : tie.Need-same-length-2
 same-length-2 c = search needs
 
 returns : tie.Need-returns
-returns c = (plan-refused (c .before .before .before .before .before .before .before .before .pre) (subst (λ (p : Plan). UnmapPlan (state-of (c .before .before .before .before .before .before .before .before .args .ram .now) (c .before .before .before .before .before .before .before .before .args .ledger .now)) (c .before .before .before .before .before .before .before .before .args .a) (c .before .before .before .before .before .before .before .before .args .g) p) (c .before .plan .given .1) (c .before .before .before .plan-unmap .ensures)), (λ z. absurd (unmap-nonzero _ _ _ _ (subst (λ (p : Plan). UnmapPlan (state-of (c .before .before .before .before .before .before .before .before .args .ram .now) (c .before .before .before .before .before .before .before .before .args .ledger .now)) (c .before .before .before .before .before .before .before .before .args .a) (c .before .before .before .before .before .before .before .before .args .g) p) (c .before .plan .given .1) (c .before .before .before .plan-unmap .ensures)) z), λ z. absurd (unmap-nonzero _ _ _ _ (subst (λ (p : Plan). UnmapPlan (state-of (c .before .before .before .before .before .before .before .before .args .ram .now) (c .before .before .before .before .before .before .before .before .args .ledger .now)) (c .before .before .before .before .before .before .before .before .args .a) (c .before .before .before .before .before .before .before .before .args .g) p) (c .before .plan .given .1) (c .before .before .before .plan-unmap .ensures)) z)))
+returns c = (plan-refused (c .before .before .before .before .before .before .before .before .pre) (subst (λ (p : Plan). Unmap-plan (state-of (c .before .before .before .before .before .before .before .before .args .ram .now) (c .before .before .before .before .before .before .before .before .args .ledger .now)) (c .before .before .before .before .before .before .before .before .args .a) (c .before .before .before .before .before .before .before .before .args .g) p) (c .before .plan .given .1) (c .before .before .before .plan-unmap .ensures)), (λ z. absurd (unmap-nonzero _ _ _ _ (subst (λ (p : Plan). Unmap-plan (state-of (c .before .before .before .before .before .before .before .before .args .ram .now) (c .before .before .before .before .before .before .before .before .args .ledger .now)) (c .before .before .before .before .before .before .before .before .args .a) (c .before .before .before .before .before .before .before .before .args .g) p) (c .before .plan .given .1) (c .before .before .before .plan-unmap .ensures)) z), λ z. absurd (unmap-nonzero _ _ _ _ (subst (λ (p : Plan). Unmap-plan (state-of (c .before .before .before .before .before .before .before .before .args .ram .now) (c .before .before .before .before .before .before .before .before .args .ledger .now)) (c .before .before .before .before .before .before .before .before .args .a) (c .before .before .before .before .before .before .before .before .args .g) p) (c .before .plan .given .1) (c .before .before .before .plan-unmap .ensures)) z)))
 
 same-length-3 : tie.Need-same-length-3
 same-length-3 c = search needs

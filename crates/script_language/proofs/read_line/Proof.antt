@@ -1,7 +1,7 @@
 -- Written by tools/prove from the file answers beside it: edit that, and not this.
 -- By the definition's tests, in its order.
 use lib.Seq.{length-take-le}
-use Rattle.script_language.specs.Commands.{readOf}
+use Rattle.script_language.specs.Commands.{read-of}
 use borrow.Author.Needs.{needs}
 use mathlib.Core.Path.{sym}
 use borrow.Author.Tests.{lt-ltb, lt-leb, le-leb, le-ltb}
@@ -9,7 +9,7 @@ use Rattle.script_language.proofs.read_line.Statement.{statement}
 use Rattle.script_language.proofs.read_line.Tie as tie
 
 returns : tie.Need-returns
-unfolding readOf
+unfolding read-of
 returns c = simp (
   le-leb _ _ (c .if1 .taken),
   le-ltb _ _ (c .if1 .taken),
@@ -28,7 +28,7 @@ read-text-requires : tie.Need-read-text-requires
 read-text-requires c κs = search needs
 
 returns-2 : tie.Need-returns-2
-unfolding readOf
+unfolding read-of
 returns-2 c = simp (
   lt-ltb _ _ (c .before .before .before .before .before .if1 .left),
   lt-leb _ _ (c .before .before .before .before .before .if1 .left),
@@ -39,7 +39,7 @@ returns-2 c = simp (
 )
 
 returns-3 : tie.Need-returns-3
-unfolding readOf
+unfolding read-of
 returns-3 c = simp (
   lt-ltb _ _ (c .before .before .before .before .if1 .left),
   lt-leb _ _ (c .before .before .before .before .if1 .left),

@@ -6,14 +6,14 @@ use mathlib.Core.List.{List}
 use native.Mathlib.Omega.{arith}
 use lib.ListN.{length}
 use lib.Dec.{ltb}
-use Rattle.walk_descriptor.specs.declared.Kind.the-variants.{WalkAbort, Translation}
+use Rattle.walk_descriptor.specs.declared.FaultKind.the-variants.{WalkAbort, Translation}
 use Rattle.walk.specs.declared.Answer.{Answer}
 use Rattle.walk.specs.declared.Answer.the-variants.{Found, Fault, During, Refused}
 use Rattle.walk.specs.Memory.{read-at}
 use Rattle.walk.specs.Both.{Walked, ends, fetched-at, One, reached, failed, Both, found, fault, during, alone, tell, rules-1, fetch-1}
 use Rattle.walk.specs.Both.{stage-1, stage-2, both, stage2-fits, both-fits, answer-2, answer}
 use Rattle.walk.proofs.Laws.Within.{Within, wider, fetched-within, walk-within, through-within}
-use Rattle.walk.proofs.Laws.Short.{LowOne, stage-2-short}
+use Rattle.walk.proofs.Laws.Short.{Low-one, stage-2-short}
 
 module _ (m : List ℕ) (b root2 access : ℕ) where
   -- a guest-physical address from which stage 2 comes to p
@@ -32,7 +32,7 @@ module _ (m : List ℕ) (b root2 access : ℕ) where
         walk-within (rules-1 m b root2 access el) va 4 (λ kind level. record { good = tt; few = omega arith })
         (λ ipa low. through-within (λ kind level. fault kind 2 level) (λ a. ends (found a)) 0 (λ kind level. tt) (stage-2 m b root2 access ipa)
         (stage-2-short m b access ipa root2 .few)
-        (λ a at. record { good = (subst LowOne at (stage-2-short m b access ipa root2 .good), (ipa, low, at)); few = omega arith }))
+        (λ a at. record { good = (subst Low-one at (stage-2-short m b access ipa root2 .good), (ipa, low, at)); few = omega arith }))
         (fetch-1 m b root2) 5
         (λ level ipa most next h. wider (omega arith) (through-within (λ kind level2. during kind level2 level)
         (λ a. fetched-at a (read-at m b a) (ends (fault WalkAbort 1 level)) next) (1 + most) (λ kind level. tt) (stage-2 m b root2 0 ipa)
@@ -71,7 +71,7 @@ bounded true (found a) n most l h = record { low = l; few = h }
 bounded true (fault kind stage level) n most l h = record { low = tt; few = h }
 bounded true (during kind level of) n most l h = record { low = tt; few = h }
 
-low-2 : (r : One) → LowOne r → Low (tell (alone r) 0)
+low-2 : (r : One) → Low-one r → Low (tell (alone r) 0)
 low-2 (reached a) l = l
 low-2 (failed kind level) l = tt
 

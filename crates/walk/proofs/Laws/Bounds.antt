@@ -7,7 +7,7 @@ use mathlib.Core.Option.{Option, none, some}
 use native.Mathlib.Omega.{arith}
 use borrow.Author.Tests.{ltb-true, eqb-true}
 use lib.Dec.{eqb, ltb}
-use Rattle.walk_descriptor.specs.declared.Kind.the-variants.{Translation, NotModelled, AccessFlag, Permission}
+use Rattle.walk_descriptor.specs.declared.FaultKind.the-variants.{Translation, NotModelled, AccessFlag, Permission}
 use Rattle.walk_level.specs.declared.Step.{Step}
 use Rattle.walk_level.specs.declared.Step.the-variants.{Absent, Down, Output, Fail}
 use Rattle.walk.specs.Memory.{image-fits, read-at}

@@ -9,8 +9,8 @@ use native.Mathlib.Omega.{arith}
 use borrow.Author.Tests.{lt-ltb, le-leb}
 use lib.Dec.{eqb, ltb}
 use lib.ListN.{length}
-use Rattle.memory.specs.Word.{wordAt}
-use Rattle.walk_descriptor.specs.declared.Kind.the-variants.{WalkAbort, Translation, Permission}
+use Rattle.memory.specs.Word.{word-at}
+use Rattle.walk_descriptor.specs.declared.FaultKind.the-variants.{WalkAbort, Translation, Permission}
 use Rattle.walk.specs.Memory.{read-at}
 use Rattle.walk_descriptor.specs.Descriptor.{span, slot, bit, address, allows-2}
 use Rattle.walk_level.specs.Stage.{valid, leaf, meaning}
@@ -19,7 +19,7 @@ use Rattle.walk.specs.Steps.{rest-2}
 use Rattle.walk.proofs.Laws.Turn.{turn-left}
 
 -- the descriptor o bytes into RAM
-pub read-in : (m : List ℕ) (b o : ℕ) → o + 8 ≤ length m → read-at m b (b + o) ≡ some (wordAt m o)
+pub read-in : (m : List ℕ) (b o : ℕ) → o + 8 ≤ length m → read-at m b (b + o) ≡ some (word-at m o)
 unfolding read-at
 read-in m b o room =
     let back : b + o - b ≡ o = omega arith in

@@ -4,7 +4,7 @@ use mathlib.Core.Path.{_≡_, refl, ap, _∙_}
 use mathlib.Core.List.{List}
 use native.Mathlib.Omega.{arith}
 use lib.ListN.{length, length-append}
-use Rattle.walk_descriptor.specs.declared.Kind.{Kind}
+use Rattle.walk_descriptor.specs.declared.FaultKind.{FaultKind}
 use Rattle.walk.specs.declared.Answer.{Answer}
 use Rattle.walk.specs.declared.Ended.{Ended}
 use Rattle.walk.specs.declared.Ended.the-variants.{Reached, Failed}
@@ -26,7 +26,7 @@ module _ {R A : Type 0} (say : R → ℕ → A) where
   tells-whole w = ap (say (w .result)) (omega arith)
 
 -- What the end of stage 2 says of the whole walk that went through it.
-module _ (fails : Kind → ℕ → Both) (next : ℕ → Walked Both) where
+module _ (fails : FaultKind → ℕ → Both) (next : ℕ → Walked Both) where
   abbrev pub goes-on : Ended → Answer
   goes-on (Reached a k) = told k (next a)
   goes-on (Failed kind level k) = tell (fails kind level) k

@@ -4,7 +4,7 @@ use mathlib.Core.Path.{_≡_, refl, sym, ap, _∙_}
 use mathlib.Core.Bool.{Bool, true, false, cond, _&&_}
 use native.Mathlib.Omega.{arith}
 use lib.Dec.{eqb}
-use Rattle.walk_descriptor.specs.declared.Kind.the-variants.{Translation, NotModelled, AccessFlag, Permission}
+use Rattle.walk_descriptor.specs.declared.FaultKind.the-variants.{Translation, NotModelled, AccessFlag, Permission}
 use Rattle.walk_level.specs.declared.Step.{Step}
 use Rattle.walk_level.specs.declared.Step.the-variants.{Absent, Down, Output, Fail}
 use Rattle.walk_descriptor.specs.Descriptor.{span, slot, bit, address, is-table, is-valid, is-modelled, allows}

@@ -6,8 +6,8 @@ use mathlib.Core.List.{List, [], _∷_}
 use mathlib.Core.Option.{Option, none, some}
 use native.Mathlib.Omega.{arith}
 use lib.ListN.{length}
-use Rattle.walk_descriptor.specs.declared.Kind.{Kind}
-use Rattle.walk_descriptor.specs.declared.Kind.the-variants.{WalkAbort}
+use Rattle.walk_descriptor.specs.declared.FaultKind.{FaultKind}
+use Rattle.walk_descriptor.specs.declared.FaultKind.the-variants.{WalkAbort}
 use Rattle.walk.specs.declared.Answer.{Answer}
 use Rattle.walk.specs.declared.Answer.the-variants.{During}
 use Rattle.walk.specs.declared.Ended.{Ended}
@@ -24,12 +24,12 @@ use Rattle.walk_level.specs.Step.{step-of}
 use Rattle.walk.specs.Steps.{Finished, step-read, step-at, tells, end-by, ended, told, rest-1, rest-2, here-1, turn-to, Turns}
 use Rattle.walk.proofs.Laws.Turn.{turn, play, plays}
 use Rattle.walk.proofs.Laws.Told.{goes-on, tells-more, tells-now, told-through}
-use Rattle.walk.proofs.Laws.Short.{LowEnd, ended-low, stage-2-short}
+use Rattle.walk.proofs.Laws.Short.{Low-end, ended-low, stage-2-short}
 use Rattle.walk.proofs.Laws.Bounds.{Sane, step-sane}
 
 -- `fails` is a failure of this stage, `out` what follows from its output address, and `below` from the next table;
 -- n descriptors had been fetched before this one.
-module _ {R A : Type 0} (say : R → ℕ → A) (fails : Kind → ℕ → R) (out below : ℕ → Walked R) (level n : ℕ) where
+module _ {R A : Type 0} (say : R → ℕ → A) (fails : FaultKind → ℕ → R) (out below : ℕ → Walked R) (level n : ℕ) where
   abbrev pub goes : Step → A
   goes Absent = say (fails WalkAbort level) n
   goes (Down t) = tells say (n + 1) (below t)
@@ -66,7 +66,7 @@ module _ {R A : Type 0} (say : R → ℕ → A) (fails : Kind → ℕ → R) (ou
         subst (Turned (tells say n (from-here (read-at m b a)))) (sym visited)
         (record { sane = step-sane m b rights ia level a le; so = by-read (read-at m b a) })
 
-module _ {R A : Type 0} {say : R → ℕ → A} {fails : Kind → ℕ → R} {out below : ℕ → Walked R} {level n : ℕ} {whole : A} {x : Step}
+module _ {R A : Type 0} {say : R → ℕ → A} {fails : FaultKind → ℕ → R} {out below : ℕ → Walked R} {level n : ℕ} {whole : A} {x : Step}
     (turn : Turned say fails out below level n whole x) where
   at-step : {y : Step} → x ≡ y → Turned say fails out below level n whole y
   at-step e = subst (Turned say fails out below level n whole) e turn
@@ -80,7 +80,7 @@ module _ {R A : Type 0} {say : R → ℕ → A} {fails : Kind → ℕ → R} {ou
   pub went-out : {o : ℕ} → x ≡ Output o → whole ≡ tells say (n + 1) (out o)
   went-out e = at-step e .so
 
-  pub went-wrong : {kind : Kind} → x ≡ Fail kind → whole ≡ say (fails kind level) (n + 1)
+  pub went-wrong : {kind : FaultKind} → x ≡ Fail kind → whole ≡ say (fails kind level) (n + 1)
   went-wrong e = at-step e .so
 
   pub was-absent : x ≡ Absent → whole ≡ say (fails WalkAbort level) n
@@ -128,7 +128,7 @@ module _ (m : List ℕ) (b root2 access el va level : ℕ) where
   module _ (table n : ℕ) where
     -- where the way through stage 2 ended so
     pub record Arrived (way : Ended) : Type 0 where
-      pub low : LowEnd n way
+      pub low : Low-end n way
       pub so : told n (rest-1 m b root2 access el va (3 - level) table)
           ≡ goes-on (λ kind level2. during kind level2 level) (here-1 m b root2 access el va level) way
 
@@ -148,7 +148,7 @@ module _ {m : List ℕ} {b root2 access el va level table n : ℕ} {way : Ended}
   at-end : {end : Ended} → way ≡ end → Arrived m b root2 access el va level table n end
   at-end e = subst (Arrived m b root2 access el va level table n) e arrived
 
-  pub was-lost : {kind : Kind} {level2 k : ℕ} → way ≡ Failed kind level2 k
+  pub was-lost : {kind : FaultKind} {level2 k : ℕ} → way ≡ Failed kind level2 k
       → told n (rest-1 m b root2 access el va (3 - level) table) ≡ During kind level2 level k
   was-lost e = at-end e .so
 

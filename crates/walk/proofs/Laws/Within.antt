@@ -5,8 +5,8 @@ use mathlib.Core.Path.{_≡_, refl, sym, subst}
 use mathlib.Core.Option.{Option, none, some}
 use native.Mathlib.Omega.{arith}
 use lib.ListN.{length, length-append}
-use Rattle.walk_descriptor.specs.declared.Kind.{Kind}
-use Rattle.walk_descriptor.specs.declared.Kind.the-variants.{Translation}
+use Rattle.walk_descriptor.specs.declared.FaultKind.{FaultKind}
+use Rattle.walk_descriptor.specs.declared.FaultKind.the-variants.{Translation}
 use Rattle.walk_level.specs.declared.Step.{Step}
 use Rattle.walk_level.specs.declared.Step.the-variants.{Absent, Down, Output, Fail}
 use Rattle.walk_descriptor.specs.Descriptor.{slot}
@@ -29,7 +29,7 @@ module _ {R : Type 0} {Good : R → Type 0} where
   fetched-within a none abort next first h = wider (omega arith) first
   fetched-within a (some d) abort next first h = let few = h d .few in record { good = h d .good; few = omega arith }
 
-  module _ (s : Stage (Walked R)) (ia last : ℕ) (faults : (kind : Kind) (level : ℕ) → Within Good last (s .fault kind level))
+  module _ (s : Stage (Walked R)) (ia last : ℕ) (faults : (kind : FaultKind) (level : ℕ) → Within Good last (s .fault kind level))
       (outputs : (o : ℕ) → o < 2 ^ 48 → Within Good last (s .output o)) where
     by-step : (level most : ℕ) (below : ℕ → Walked R) → last ≤ most → ((t : ℕ) → Within Good most (below t)) → (x : Step) → Sane level x
         → Within Good most (play s ia level below (λ w. w) (s .fault Translation level) x)
@@ -67,8 +67,8 @@ module _ {R : Type 0} {Good : R → Type 0} where
           (by-word level (all left) (walk-from s ia fetch left) (omega arith) (last-all left) (walk-within left))
 
 -- a way through stage 2 adds what it fetched
-module _ {Good : Both → Type 0} (fails : Kind → ℕ → Both) (next : ℕ → Walked Both) (most : ℕ)
-    (lost : (kind : Kind) (level : ℕ) → Good (fails kind level)) where
+module _ {Good : Both → Type 0} (fails : FaultKind → ℕ → Both) (next : ℕ → Walked Both) (most : ℕ)
+    (lost : (kind : FaultKind) (level : ℕ) → Good (fails kind level)) where
   by-end : (r : One) → ((a : ℕ) → r ≡ reached a → Within Good most (next a)) → Within Good most (by-result r fails next)
   by-end (reached a) h = h a refl
   by-end (failed kind level) h = record { good = lost kind level; few = omega arith }

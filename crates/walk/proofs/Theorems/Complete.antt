@@ -8,7 +8,7 @@ use mathlib.Core.Option.{Option, none, some}
 use native.Mathlib.Omega.{arith}
 use borrow.Author.Tests.{lt-ltb}
 use lib.ListN.{length, length-append}
-use Rattle.walk_descriptor.specs.declared.Kind.the-variants.{WalkAbort, Translation}
+use Rattle.walk_descriptor.specs.declared.FaultKind.the-variants.{WalkAbort, Translation}
 use Rattle.walk_level.specs.declared.Step.{Step}
 use Rattle.walk_level.specs.declared.Step.the-variants.{Absent, Down, Output, Fail}
 use Rattle.walk.specs.Memory.{read-at}
@@ -44,16 +44,16 @@ fetch-telling m b root2 level ipa next =
 unfoldable pub walks : List ℕ → ℕ → ℕ → ℕ → ℕ → ℕ → ℕ → List (Walked One)
 walks m b root1 root2 va access el = walk-from (telling-walks m b root2 access el) va (fetch-telling m b root2) 3 root1
 
-abbrev pub EachFour : List (Walked One) → Type 0
-EachFour [] = Unit {0}
-EachFour (w ∷ more) = (length (w .fetched) ≡ 4) × EachFour more
+abbrev pub Each-four : List (Walked One) → Type 0
+Each-four [] = Unit {0}
+Each-four (w ∷ more) = (length (w .fetched) ≡ 4) × Each-four more
 
 module _ (m : List ℕ) (b root2 access el va : ℕ) where
   -- n levels are left below this one; `ws` and `fs` are the two walks from there
   module _ (n level : ℕ) (ws : ℕ → List (Walked One)) (fs : ℕ → Walked Both)
-      (below : (t : ℕ) → EachFour (ws t) → length (ws t) ≡ n + 1 → length ((fs t) .fetched) ≡ 5 * n + 4) where
+      (below : (t : ℕ) → Each-four (ws t) → length (ws t) ≡ n + 1 → length ((fs t) .fetched) ≡ 5 * n + 4) where
     by-step : (x : Step) (abort : Walked Both)
-        → EachFour (play (telling-walks m b root2 access el) va level ws (λ l. l) [] x)
+        → Each-four (play (telling-walks m b root2 access el) va level ws (λ l. l) [] x)
         → length (play (telling-walks m b root2 access el) va level ws (λ l. l) [] x) ≡ n + 1
         → length ((play (rules-1 m b root2 access el) va level fs (λ w. w) abort x) .fetched) ≡ 5 * n + 4
     unfolding telling-walks rules-1
@@ -73,7 +73,7 @@ module _ (m : List ℕ) (b root2 access el va : ℕ) where
         nothing-more (failed kind level) = refl
     by-step (Fail kind) abort each len = absurd (omega arith)
 
-    by-word : (d : ℕ) → EachFour (meaning (telling-walks m b root2 access el) va level d ws)
+    by-word : (d : ℕ) → Each-four (meaning (telling-walks m b root2 access el) va level d ws)
         → length (meaning (telling-walks m b root2 access el) va level d ws) ≡ n + 1
         → length ((meaning (rules-1 m b root2 access el) va level d fs) .fetched) ≡ 5 * n + 4
     unfolding telling-walks rules-1
@@ -82,11 +82,11 @@ module _ (m : List ℕ) (b root2 access el va : ℕ) where
         let p = plays (telling-walks m b root2 access el) va level ws (λ l. l) [] d in
         let q = plays (rules-1 m b root2 access el) va level fs (λ w. w) abort d in
         ap (λ (w : Walked Both). length (w .fetched)) q
-        ∙ by-step (step-of (allows-1 el access) va level d) abort (subst EachFour p each)
+        ∙ by-step (step-of (allows-1 el access) va level d) abort (subst Each-four p each)
         (sym (ap length p) ∙ len)
 
     by-read : (a : ℕ) (o : Option ℕ)
-        → EachFour (read-on o (λ d. meaning (telling-walks m b root2 access el) va level d ws))
+        → Each-four (read-on o (λ d. meaning (telling-walks m b root2 access el) va level d ws))
         → length (read-on o (λ d. meaning (telling-walks m b root2 access el) va level d ws)) ≡ n + 1
         → length ((fetched-at a o (ends (fault WalkAbort 1 level)) (λ d. meaning (rules-1 m b root2 access el) va level d fs)) .fetched)
         ≡ 5 * n + 5
@@ -94,7 +94,7 @@ module _ (m : List ℕ) (b root2 access el va : ℕ) where
     by-read a (some d) each len = let h = by-word d each len in omega arith
 
     by-way : (r : One)
-        → EachFour (onward r (λ a. read-on (read-at m b a) (λ d. meaning (telling-walks m b root2 access el) va level d ws)))
+        → Each-four (onward r (λ a. read-on (read-at m b a) (λ d. meaning (telling-walks m b root2 access el) va level d ws)))
         → length (onward r (λ a. read-on (read-at m b a) (λ d. meaning (telling-walks m b root2 access el) va level d ws))) ≡ n + 1
         → length
         ((by-result r (λ kind level2. during kind level2 level)
@@ -105,7 +105,7 @@ module _ (m : List ℕ) (b root2 access el va : ℕ) where
     by-way (failed kind level2) each len = absurd (omega arith)
 
     at-level : (ipa : ℕ)
-        → EachFour (fetch-telling m b root2 level ipa (λ d. meaning (telling-walks m b root2 access el) va level d ws))
+        → Each-four (fetch-telling m b root2 level ipa (λ d. meaning (telling-walks m b root2 access el) va level d ws))
         → length (fetch-telling m b root2 level ipa (λ d. meaning (telling-walks m b root2 access el) va level d ws)) ≡ n + 2
         → length ((fetch-1 m b root2 level ipa (λ d. meaning (rules-1 m b root2 access el) va level d fs)) .fetched) ≡ 5 * n + 9
     unfolding fetch-telling fetch-1
@@ -122,7 +122,7 @@ module _ (m : List ℕ) (b root2 access el va : ℕ) where
         )
 
   from-left : (left table : ℕ)
-      → EachFour (walk-from (telling-walks m b root2 access el) va (fetch-telling m b root2) left table)
+      → Each-four (walk-from (telling-walks m b root2 access el) va (fetch-telling m b root2) left table)
       → length (walk-from (telling-walks m b root2 access el) va (fetch-telling m b root2) left table) ≡ left + 2
       → length ((rest-1 m b root2 access el va left table) .fetched) ≡ 5 * left + 9
   unfolding walk-from
@@ -132,7 +132,7 @@ module _ (m : List ℕ) (b root2 access el va : ℕ) where
       let q = turn-last (rules-1 m b root2 access el) va (fetch-1 m b root2) table (λ t. ends (fault Translation 1 0)) in
       ap (λ (w : Walked Both). length (w .fetched)) q
       ∙ at-level 0 3 (λ t. []) (λ t. ends (fault Translation 1 0)) (λ t e l. absurd (omega arith)) (slot 3 va table)
-      (subst EachFour p each) (sym (ap length p) ∙ len)
+      (subst Each-four p each) (sym (ap length p) ∙ len)
   from-left (suc left) table each len =
       let h =
       at-level (suc left) (3 - suc left) (walk-from (telling-walks m b root2 access el) va (fetch-telling m b root2) left)
@@ -140,12 +140,12 @@ module _ (m : List ℕ) (b root2 access el va : ℕ) where
       (λ t e l. let r = from-left left t e (omega arith) in omega arith) (slot (3 - suc left) va table) each len in
       h
 
-  pub stage-1-complete : (root1 : ℕ) → EachFour (walks m b root1 root2 va access el) → length (walks m b root1 root2 va access el) ≡ 5
+  pub stage-1-complete : (root1 : ℕ) → Each-four (walks m b root1 root2 va access el) → length (walks m b root1 root2 va access el) ≡ 5
       → length ((stage-1 m b root1 root2 va access el) .fetched) ≡ 24
   unfolding walks stage-1
   stage-1-complete root1 each len = from-left 3 root1 each len
 
-  pub complete : (root1 : ℕ) → va < 2 ^ 48 → EachFour (walks m b root1 root2 va access el)
+  pub complete : (root1 : ℕ) → va < 2 ^ 48 → Each-four (walks m b root1 root2 va access el)
       → length (walks m b root1 root2 va access el) ≡ 5 → length ((both m b root1 root2 va access el) .fetched) ≡ 24
   unfolding both
   complete root1 low each len = simp (lt-ltb va (2 ^ 48) low) (stage-1-complete root1 each len)

@@ -7,9 +7,9 @@ use mathlib.Core.List.{List, [], _∷_, _++_}
 use mathlib.Core.Option.{Option, none, some}
 use lib.Dec.{ltb, leb}
 use lib.ListN.{length}
-use Rattle.memory.specs.Word.{wordAt}
-use Rattle.walk_descriptor.specs.declared.Kind.{Kind}
-use Rattle.walk_descriptor.specs.declared.Kind.the-variants.{WalkAbort, Translation}
+use Rattle.memory.specs.Word.{word-at}
+use Rattle.walk_descriptor.specs.declared.FaultKind.{FaultKind}
+use Rattle.walk_descriptor.specs.declared.FaultKind.the-variants.{WalkAbort, Translation}
 use Rattle.walk.specs.declared.Answer.{Answer}
 use Rattle.walk.specs.declared.Answer.the-variants.{Refused}
 use Rattle.walk_level.specs.declared.Step.{Step}
@@ -26,7 +26,7 @@ use Rattle.walk.proofs.Laws.Turn.{play, plays, turn-last}
 module _ (m m′ : List ℕ) (b : ℕ) where
   abbrev pub Agree : List ℕ → Type 0
   Agree [] = Unit {0}
-  Agree (a ∷ places) = (wordAt m (a - b) ≡ wordAt m′ (a - b)) × Agree places
+  Agree (a ∷ places) = (word-at m (a - b) ≡ word-at m′ (a - b)) × Agree places
 
   agree-left : (places more : List ℕ) → Agree (places ++ more) → Agree places
   agree-left [] more h = tt
@@ -40,17 +40,17 @@ module _ (m m′ : List ℕ) (b : ℕ) where
     -- a fetch: the same words are in RAM, and what follows is the same where the word that was read is
     fetched-same : {R : Type 0} (a : ℕ) (t : Bool) (abort : Walked R) (next next′ : ℕ → Walked R)
         → ((d : ℕ) → Agree ((next d) .fetched) → next d ≡ next′ d)
-        → Agree ((fetched-at a (cond t (some (wordAt m (a - b))) none) abort next) .fetched)
-        → fetched-at a (cond t (some (wordAt m (a - b))) none) abort next
-        ≡ fetched-at a (cond t (some (wordAt m′ (a - b))) none) abort next′
+        → Agree ((fetched-at a (cond t (some (word-at m (a - b))) none) abort next) .fetched)
+        → fetched-at a (cond t (some (word-at m (a - b))) none) abort next
+        ≡ fetched-at a (cond t (some (word-at m′ (a - b))) none) abort next′
     fetched-same a true abort next next′ h ag =
-        ap (having-fetched (a ∷ [])) (h (wordAt m (a - b)) (ag .1))
+        ap (having-fetched (a ∷ [])) (h (word-at m (a - b)) (ag .1))
         ∙ ap (λ (d : ℕ). having-fetched (a ∷ []) (next′ d)) (ag .0)
     fetched-same a false abort next next′ h ag = refl
 
-    read-same : (a : ℕ) → read-at m′ b a ≡ cond (in-ram m b a) (some (wordAt m′ (a - b))) none
+    read-same : (a : ℕ) → read-at m′ b a ≡ cond (in-ram m b a) (some (word-at m′ (a - b))) none
     unfolding read-at
-    read-same a = ap (λ (len : ℕ). cond (leb b a && leb (a - b + 8) len) (some (wordAt m′ (a - b))) none) (sym same)
+    read-same a = ap (λ (len : ℕ). cond (leb b a && leb (a - b + 8) len) (some (word-at m′ (a - b))) none) (sym same)
 
     fetch-same : {R : Type 0} (a : ℕ) (abort : Walked R) (next next′ : ℕ → Walked R)
         → ((d : ℕ) → Agree ((next d) .fetched) → next d ≡ next′ d)
@@ -63,7 +63,7 @@ module _ (m m′ : List ℕ) (b : ℕ) where
 
     -- one walk on both images, for stages that differ in what they read only
     module _ {R : Type 0} (s s′ : Stage (Walked R)) (ia : ℕ) (rights : s .allows ≡ s′ .allows)
-        (faults : (kind : Kind) (level : ℕ) → s .fault kind level ≡ s′ .fault kind level)
+        (faults : (kind : FaultKind) (level : ℕ) → s .fault kind level ≡ s′ .fault kind level)
         (outputs : (o : ℕ) → Agree ((s .output o) .fetched) → s .output o ≡ s′ .output o) where
       play-same : (level : ℕ) (below below′ : ℕ → Walked R) (x : Step) (abort : Walked R)
           → ((t : ℕ) → Agree ((below t) .fetched) → below t ≡ below′ t)
@@ -108,13 +108,13 @@ module _ (m m′ : List ℕ) (b : ℕ) where
         (λ level a next next′ h. fetch-same a (ends (failed WalkAbort level)) next next′ h) 3 root ag
 
     -- a way through stage 2 and what follows
-    by-same : (r : One) (fails : Kind → ℕ → Both) (next next′ : ℕ → Walked Both)
+    by-same : (r : One) (fails : FaultKind → ℕ → Both) (next next′ : ℕ → Walked Both)
         → ((a : ℕ) → Agree ((next a) .fetched) → next a ≡ next′ a)
         → Agree ((by-result r fails next) .fetched) → by-result r fails next ≡ by-result r fails next′
     by-same (reached a) fails next next′ h ag = h a ag
     by-same (failed kind level) fails next next′ h ag = refl
 
-    through-same : (root2 access ipa : ℕ) (fails : Kind → ℕ → Both) (next next′ : ℕ → Walked Both)
+    through-same : (root2 access ipa : ℕ) (fails : FaultKind → ℕ → Both) (next next′ : ℕ → Walked Both)
         → ((a : ℕ) → Agree ((next a) .fetched) → next a ≡ next′ a)
         → Agree ((through (stage-2 m b root2 access ipa) fails next) .fetched)
         → through (stage-2 m b root2 access ipa) fails next ≡ through (stage-2 m′ b root2 access ipa) fails next′

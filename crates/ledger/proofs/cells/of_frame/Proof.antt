@@ -1,7 +1,7 @@
 -- Written by tools/prove from the file answers beside it: edit that, and not this.
 -- The word at the place is the cell.
 use Prim.Native.Nat.{_+_, _*_}
-use Rattle.ledger.specs.Cells.{cell-at}
+use Rattle.ledger.proofs.Laws.Cells.{cell-at}
 use Rattle.ledger.specs.Layout.{most-frames}
 use borrow.Author.Needs.{needs}
 use native.Mathlib.Omega.{arith}

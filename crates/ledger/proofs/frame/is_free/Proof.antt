@@ -3,7 +3,7 @@
 use mathlib.Core.Path.{_∙_, ap, sym}
 use Prim.Native.Nat.{ℕ}
 use lib.Dec.{eqb}
-use Rattle.ledger.specs.Kinds.{free-here}
+use Rattle.ledger.proofs.Laws.Kinds.{free-here}
 use borrow.Author.Needs.{needs}
 use Rattle.ledger.proofs.frame.is_free.Statement.{statement}
 use Rattle.ledger.proofs.frame.is_free.Tie as tie

@@ -3,7 +3,7 @@
 use mathlib.Core.Path.{_∙_, ap, sym}
 use Prim.Native.Nat.{ℕ}
 use lib.Dec.{eqb}
-use Rattle.ledger.specs.Kinds.{page-of-here}
+use Rattle.ledger.proofs.Laws.Kinds.{page-of-here}
 use borrow.Author.Needs.{needs}
 use Rattle.ledger.proofs.frame.is_page_of.Statement.{statement}
 use Rattle.ledger.proofs.frame.is_page_of.Tie as tie

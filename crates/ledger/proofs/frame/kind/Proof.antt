@@ -1,7 +1,7 @@
 -- Written by tools/prove from the file answers beside it: edit that, and not this.
 -- The stored number, where it is one of six.
 use Rattle.ledger.specs.Layout.{frames, guest-rows}
-use Rattle.ledger.specs.Kinds.{sort-here}
+use Rattle.ledger.proofs.Laws.Kinds.{sort-here}
 use borrow.Author.Needs.{needs}
 use mathlib.Core.Path.{sym}
 use borrow.Author.Tests.{lt-ltb, lt-leb, le-leb, le-ltb}

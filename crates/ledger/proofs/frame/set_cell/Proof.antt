@@ -1,8 +1,8 @@
 -- Written by tools/prove from the file answers beside it: edit that, and not this.
 -- The two numbers fit the cell.
 use mathlib.Core.Path.{refl}
-use Rattle.ledger.specs.Laws.{guest-low}
-use Rattle.ledger.specs.Stores.{row-low, cell-changed}
+use Rattle.ledger.proofs.Laws.Fields.{guest-low}
+use Rattle.ledger.proofs.Laws.Stores.{row-low, cell-changed}
 use borrow.Author.Needs.{needs}
 use native.Mathlib.Omega.{arith}
 use Rattle.ledger.proofs.frame.set_cell.Statement.{statement}

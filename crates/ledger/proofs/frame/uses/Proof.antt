@@ -4,7 +4,7 @@ use Prim.Native.Nat.{ℕ, _-_, _+_, _*_, _≤_}
 use mathlib.Core.Path.{_≡_}
 use Rattle.model.specs.State.{guests}
 use Rattle.ledger.specs.Layout.{shared-of, count-of}
-use Rattle.ledger.specs.Laws.{guest-is, so-far, none-yet, one-more, all-told}
+use Rattle.ledger.proofs.Laws.Fields.{guest-is, so-far, none-yet, one-more, all-told}
 use borrow.Author.Needs.{needs}
 use native.Mathlib.Omega.{arith}
 use Rattle.ledger.proofs.frame.uses.Statement.{statement}

@@ -3,7 +3,7 @@
 use mathlib.Core.Path.{ap}
 use Prim.Native.Nat.{ℕ}
 use lib.Dec.{eqb}
-use Rattle.ledger.specs.Cells.{cell-none}
+use Rattle.ledger.proofs.Laws.Cells.{cell-none}
 use Rattle.ledger.specs.Layout.{exists-in}
 use borrow.Author.Needs.{needs}
 use native.Mathlib.Omega.{arith}

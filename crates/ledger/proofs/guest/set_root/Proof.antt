@@ -1,7 +1,7 @@
 -- Written by tools/prove from the file answers beside it: edit that, and not this.
 -- One store in the guest's row.
-use Rattle.ledger.specs.Laws.{state-root}
-use Rattle.ledger.specs.Stores.{guest-changed}
+use Rattle.ledger.proofs.Laws.Fields.{state-root}
+use Rattle.ledger.proofs.Laws.Stores.{guest-changed}
 use borrow.Author.Needs.{needs}
 use native.Mathlib.Omega.{arith}
 use Rattle.ledger.proofs.guest.set_root.Statement.{statement}

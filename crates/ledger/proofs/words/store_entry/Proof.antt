@@ -2,7 +2,7 @@
 -- One store.
 use mathlib.Core.Path.{_∙_, ap}
 use Rattle.ledger.specs.Layout.{word-of}
-use Rattle.ledger.specs.Words.{word-stored}
+use Rattle.ledger.proofs.Laws.Words.{word-stored}
 use borrow.Author.Needs.{needs}
 use native.Mathlib.Omega.{arith}
 use Rattle.ledger.proofs.words.store_entry.Statement.{statement}

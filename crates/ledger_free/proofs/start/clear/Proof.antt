@@ -3,15 +3,15 @@
 use mathlib.Core.Path.{_≡_, refl, ap, _∙_, sym}
 use Prim.Native.Nat.{ℕ, _-_, _+_, _≤_}
 use lib.ListN.{length, set, length-set}
-use Rattle.memory.specs.Word.{clearedAt}
-use Rattle.memory.specs.Laws.{cleared-none, cleared-more}
+use Rattle.memory.specs.Word.{cleared-at}
+use Rattle.memory.proofs.Laws.Words.{cleared-none, cleared-more}
 use borrow.Author.Needs.{needs}
 use native.Mathlib.Omega.{arith}
 use Rattle.ledger_free.proofs.start.clear.Statement.{statement}
 use Rattle.ledger_free.proofs.start.clear.Tie as tie
 
 abbrev Inv-loop : tie.InvT-loop
-Inv-loop ledger₀ i₀ ledger i = (i ≤ length ledger₀) × (ledger ≡ clearedAt ledger₀ 0 i) × (length ledger ≡ length ledger₀)
+Inv-loop ledger₀ i₀ ledger i = (i ≤ length ledger₀) × (ledger ≡ cleared-at ledger₀ 0 i) × (length ledger ≡ length ledger₀)
 
 abbrev μ-loop : tie.MeasureT-loop
 μ-loop ledger₀ i₀ ledger i = length ledger₀ - i
@@ -40,7 +40,7 @@ same-length c = omega (arith, c .before .loop .inv .2)
 
 returns : tie.Need-returns Inv-loop μ-loop
 returns c = let all : c .before .loop .i ≡ length (c .before .before .args .ledger .now) = omega (arith, c .before .loop .inv .0, c .before .loop .inv .2, c .loop-test .left) in
-    c .before .loop .inv .1 ∙ ap (λ (x : ℕ). clearedAt (c .before .before .args .ledger .now) 0 x) all
+    c .before .loop .inv .1 ∙ ap (λ (x : ℕ). cleared-at (c .before .before .args .ledger .now) 0 x) all
 
 pub clear-spec : {M : Type 1} → statement M
 clear-spec =

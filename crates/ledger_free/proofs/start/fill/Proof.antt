@@ -3,7 +3,8 @@
 use mathlib.Core.Path.{_≡_, refl}
 use Prim.Native.Nat.{ℕ, _-_, _≤_}
 use lib.ListN.{length}
-use Rattle.ledger_free.specs.Start.{Filled, filled-none}
+use Rattle.ledger_free.specs.Start.{Filled}
+use Rattle.ledger_free.proofs.Laws.Start.{filled-none}
 use borrow.Author.Needs.{needs}
 use native.Mathlib.Omega.{arith}
 use Rattle.ledger_free.proofs.start.fill.Statement.{statement}

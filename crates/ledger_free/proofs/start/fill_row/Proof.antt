@@ -1,6 +1,6 @@
 -- Written by tools/prove from the file answers beside it: edit that, and not this.
 -- Its kind, and its place.
-use Rattle.ledger_free.specs.Start.{filled-more}
+use Rattle.ledger_free.proofs.Laws.Start.{filled-more}
 use borrow.Author.Needs.{needs}
 use Rattle.ledger_free.proofs.start.fill_row.Statement.{statement}
 use Rattle.ledger_free.proofs.start.fill_row.Tie as tie

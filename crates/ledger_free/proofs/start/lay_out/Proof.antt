@@ -1,6 +1,6 @@
 -- Written by tools/prove from the file answers beside it: edit that, and not this.
 -- The rows, and then the header.
-use Rattle.ledger_free.specs.Start.{laid-out}
+use Rattle.ledger_free.proofs.Laws.Start.{laid-out}
 use borrow.Author.Needs.{needs}
 use Rattle.ledger_free.proofs.start.lay_out.Statement.{statement}
 use Rattle.ledger_free.proofs.start.lay_out.Tie as tie

@@ -1,6 +1,6 @@
 -- Written by tools/prove from the file answers beside it: edit that, and not this.
 -- Each test is one of the definition's.
-use Rattle.monitor.specs.SetUp.{few-frames, many-frames, uneven, too-high, none-left, bad-ram, bad-ledger, fits-all}
+use Rattle.monitor.proofs.Laws.SetUp.{few-frames, many-frames, uneven, too-high, none-left, bad-ram, bad-ledger, fits-all}
 use borrow.Author.Needs.{needs}
 use native.Mathlib.Omega.{arith}
 use Rattle.monitor.proofs.start.check_set_up.Statement.{statement}

@@ -1,7 +1,7 @@
 -- Written by tools/prove from the file answers beside it: edit that, and not this.
 -- The slices have the machine's parts.
 use Rattle.script_machine.specs.Laws.{ram-part, ledger-part}
-use Rattle.script.specs.Line.{replyText}
+use Rattle.script.specs.Line.{reply-text}
 use Rattle.script_text.proofs.Printing.{wrote-then}
 use borrow.Author.Needs.{needs}
 use native.Mathlib.Omega.{arith}
@@ -33,7 +33,7 @@ same-length : tie.Need-same-length
 same-length c = search needs
 
 returns : tie.Need-returns
-unfolding replyText
+unfolding reply-text
 returns c = wrote-then (c .before .before .before .before .before .before .put-frame .ensures) (c .before .before .put-end .ensures)
 
 pub put-frame-line-spec : {M : Type 1} → statement M

@@ -1,6 +1,6 @@
 -- Written by tools/prove from the file answers beside it: edit that, and not this.
 -- Part after part, and the line's end.
-use Rattle.script.specs.Line.{mistakeText}
+use Rattle.script.specs.Line.{mistake-text}
 use Rattle.script_text.proofs.Printing.{wrote-then, wrote-within}
 use borrow.Author.Needs.{needs}
 use native.Mathlib.Omega.{arith}
@@ -26,7 +26,7 @@ same-length : tie.Need-same-length
 same-length c = search needs
 
 returns : tie.Need-returns
-unfolding mistakeText
+unfolding mistake-text
 returns c = wrote-then
     (wrote-then (c .before .before .before .before .before .before .before .before .before .before .before .put .ensures) (wrote-within {b = 20} (c .before .before .before .before .before .before .put-text .ensures) (omega arith) (c .before .before .before .before .before .before .before .reason-text .ensures .same)))
     (c .before .before .put-end .ensures)

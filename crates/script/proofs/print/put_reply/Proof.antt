@@ -7,7 +7,7 @@ use Rattle.script_machine.specs.declared.Machine.{Machine}
 use Rattle.script_machine.specs.declared.Reply.{Reply}
 use Rattle.script_machine.specs.declared.Reply.the-variants.{Frame, Ledger}
 use Rattle.script_machine.specs.Laws.{Tellable}
-use Rattle.script.specs.Line.{replyText}
+use Rattle.script.specs.Line.{reply-text}
 use Rattle.script_text.proofs.Printing.{wrote-then, wrote-within}
 use borrow.Author.Needs.{needs}
 use native.Mathlib.Omega.{arith}
@@ -99,35 +99,35 @@ same-length : tie.Need-same-length
 same-length c = search needs
 
 returns : tie.Need-returns
-unfolding replyText
+unfolding reply-text
 returns c = wrote-within (c .before .before .put .ensures) (omega arith) (rw (c .before .before .before .before .before .enum-told .given .1))
 
 same-length-2 : tie.Need-same-length-2
 same-length-2 c = search needs
 
 returns-2 : tie.Need-returns-2
-unfolding replyText
+unfolding reply-text
 returns-2 c = wrote-within (c .before .before .put2 .ensures) (omega arith) (rw (c .before .before .before .before .before .enum-told2 .given .1))
 
 same-length-3 : tie.Need-same-length-3
 same-length-3 c = search needs
 
 returns-3 : tie.Need-returns-3
-unfolding replyText
+unfolding reply-text
 returns-3 c = wrote-within (wrote-then (c .before .before .before .before .before .before .put-decimal .ensures) (c .before .before .put-end .ensures)) (omega arith) (rw (c .before .before .before .before .before .before .before .before .before .reply .given .1))
 
 same-length-4 : tie.Need-same-length-4
 same-length-4 c = search needs
 
 returns-4 : tie.Need-returns-4
-unfolding replyText
+unfolding reply-text
 returns-4 c = wrote-within (wrote-then (c .before .before .before .before .before .before .put-word .ensures) (c .before .before .put-end2 .ensures)) (omega arith) (rw (c .before .before .before .before .before .before .before .before .before .reply2 .given .1))
 
 same-length-5 : tie.Need-same-length-5
 same-length-5 c = search needs
 
 returns-5 : tie.Need-returns-5
-unfolding replyText
+unfolding reply-text
 returns-5 c = wrote-within (wrote-then (c .before .before .before .before .before .before .put-answer .ensures) (c .before .before .put-end3 .ensures)) (omega arith) (rw (c .before .before .before .before .before .before .before .before .before .reply3 .given .1))
 
 same-length-6 : tie.Need-same-length-6
@@ -140,7 +140,7 @@ same-length-7 : tie.Need-same-length-7
 same-length-7 c = search needs
 
 returns-7 : tie.Need-returns-7
-unfolding replyText
+unfolding reply-text
 returns-7 c = wrote-within (wrote-then (c .before .before .before .before .before .before .put-guest .ensures) (c .before .before .put-end4 .ensures)) (omega arith) (rw (c .before .before .before .before .before .before .before .before .before .reply5 .given .1))
 
 same-length-8 : tie.Need-same-length-8
@@ -153,7 +153,7 @@ same-length-9 : tie.Need-same-length-9
 same-length-9 c = search needs
 
 returns-9 : tie.Need-returns-9
-unfolding replyText
+unfolding reply-text
 returns-9 c = wrote-within (c .before .before .put3 .ensures) (omega arith) (rw (c .before .before .before .before .before .enum-told4 .given .1))
 
 pub put-reply-spec : {M : Type 1} → statement M

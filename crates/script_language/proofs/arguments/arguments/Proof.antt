@@ -3,7 +3,7 @@
 use Prim.Native.Nat.{_-_}
 use mathlib.Core.Path.{ap, _∙_}
 use Rattle.script_language.specs.declared.Read.the-variants.{Asked}
-use Rattle.script_language.specs.Verbs.{formsOf, numbersOf, othersOf}
+use Rattle.script_language.specs.Verbs.{forms-of, numbers-for, others-for}
 use Rattle.script_language.proofs.Shapes.{verb-fits}
 use Rattle.script_language.proofs.Parsing.{Reading, reading-none, reading-more, too-few, too-many, wrong-word, all-read}
 use borrow.Author.Needs.{needs}
@@ -12,7 +12,7 @@ use Rattle.script_language.proofs.arguments.arguments.Statement.{statem
 use Rattle.script_language.proofs.arguments.arguments.Tie as tie
 
 abbrev Inv-loop : tie.InvT-loop
-Inv-loop v s numbers n a₀ at₀ i₀ a at i = Reading (formsOf (numbersOf v) (othersOf v)) s a at i
+Inv-loop v s numbers n a₀ at₀ i₀ a at i = Reading (forms-of (numbers-for v) (others-for v)) s a at i
 
 abbrev μ-loop : tie.MeasureT-loop
 μ-loop v s numbers n a₀ at₀ i₀ a at i = n - i

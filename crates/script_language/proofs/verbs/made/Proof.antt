@@ -1,6 +1,6 @@
 -- Written by tools/prove from the file answers beside it: edit that, and not this.
 -- By the command.
-use Rattle.script_language.specs.Verbs.{commandWith}
+use Rattle.script_language.specs.Verbs.{command-with}
 use borrow.Author.Needs.{needs}
 use mathlib.Core.Path.{sym}
 use Rattle.script_language.proofs.verbs.made.Statement.{statement}
@@ -55,43 +55,43 @@ operation-requires : tie.Need-operation-requires
 operation-requires c κs = search needs
 
 returns : tie.Need-returns
-unfolding commandWith
+unfolding command-with
 returns c = simp (c .enum-told .given .1)
 
 returns-2 : tie.Need-returns-2
-unfolding commandWith
+unfolding command-with
 returns-2 c = simp (c .enum-told2 .given .1)
 
 returns-3 : tie.Need-returns-3
-unfolding commandWith
+unfolding command-with
 returns-3 c = simp (c .enum-told3 .given .1)
 
 returns-4 : tie.Need-returns-4
-unfolding commandWith
+unfolding command-with
 returns-4 c = simp (c .enum-told4 .given .1)
 
 returns-5 : tie.Need-returns-5
-unfolding commandWith
+unfolding command-with
 returns-5 c = simp (c .enum-told5 .given .1)
 
 returns-6 : tie.Need-returns-6
-unfolding commandWith
+unfolding command-with
 returns-6 c = simp (c .enum-told6 .given .1)
 
 returns-7 : tie.Need-returns-7
-unfolding commandWith
+unfolding command-with
 returns-7 c = simp (c .enum-told7 .given .1)
 
 returns-8 : tie.Need-returns-8
-unfolding commandWith
+unfolding command-with
 returns-8 c = simp (c .enum-told8 .given .1)
 
 returns-9 : tie.Need-returns-9
-unfolding commandWith
+unfolding command-with
 returns-9 c = simp (c .enum-told9 .given .1)
 
 returns-10 : tie.Need-returns-10
-unfolding commandWith
+unfolding command-with
 returns-10 c = simp (
   c .before .before .v .given .1,
   sym (c .operation .ensures),

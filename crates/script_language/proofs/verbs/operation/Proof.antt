@@ -1,6 +1,6 @@
 -- Written by tools/prove from the file answers beside it: edit that, and not this.
 -- By the operation.
-use Rattle.script_language.specs.Verbs.{operationWith}
+use Rattle.script_language.specs.Verbs.{operation-with}
 use borrow.Author.Needs.{needs}
 use Rattle.script_language.proofs.verbs.operation.Statement.{statement}
 use Rattle.script_language.proofs.verbs.operation.Tie as tie
@@ -45,39 +45,39 @@ enum-told-9 : tie.Need-enum-told-9
 enum-told-9 c = search needs
 
 returns : tie.Need-returns
-unfolding operationWith
+unfolding operation-with
 returns c = simp (c .enum-told .given .1)
 
 returns-2 : tie.Need-returns-2
-unfolding operationWith
+unfolding operation-with
 returns-2 c = simp (c .enum-told2 .given .1)
 
 returns-3 : tie.Need-returns-3
-unfolding operationWith
+unfolding operation-with
 returns-3 c = simp (c .enum-told3 .given .1)
 
 returns-4 : tie.Need-returns-4
-unfolding operationWith
+unfolding operation-with
 returns-4 c = simp (c .enum-told4 .given .1)
 
 returns-5 : tie.Need-returns-5
-unfolding operationWith
+unfolding operation-with
 returns-5 c = simp (c .enum-told5 .given .1)
 
 returns-6 : tie.Need-returns-6
-unfolding operationWith
+unfolding operation-with
 returns-6 c = simp (c .enum-told6 .given .1)
 
 returns-7 : tie.Need-returns-7
-unfolding operationWith
+unfolding operation-with
 returns-7 c = simp (c .enum-told7 .given .1)
 
 returns-8 : tie.Need-returns-8
-unfolding operationWith
+unfolding operation-with
 returns-8 c = simp (c .enum-told8 .given .1)
 
 returns-9 : tie.Need-returns-9
-unfolding operationWith
+unfolding operation-with
 returns-9 c = simp (c .enum-told9 .given .1)
 
 pub operation-spec : {M : Type 1} → statement M

@@ -1,6 +1,6 @@
 -- Written by tools/prove from the file answers beside it: edit that, and not this.
 -- By the command.
-use Rattle.script_language.specs.Verbs.{othersOf}
+use Rattle.script_language.specs.Verbs.{others-for}
 use borrow.Author.Needs.{needs}
 use Rattle.script_language.proofs.verbs.others_of.Statement.{statement}
 use Rattle.script_language.proofs.verbs.others_of.Tie as tie
@@ -36,43 +36,43 @@ enum-told-10 : tie.Need-enum-told-10
 enum-told-10 c = search needs
 
 returns : tie.Need-returns
-unfolding othersOf
+unfolding others-for
 returns c = simp (c .enum-told .given .1)
 
 returns-2 : tie.Need-returns-2
-unfolding othersOf
+unfolding others-for
 returns-2 c = simp (c .enum-told2 .given .1)
 
 returns-3 : tie.Need-returns-3
-unfolding othersOf
+unfolding others-for
 returns-3 c = simp (c .enum-told3 .given .1)
 
 returns-4 : tie.Need-returns-4
-unfolding othersOf
+unfolding others-for
 returns-4 c = simp (c .enum-told4 .given .1)
 
 returns-5 : tie.Need-returns-5
-unfolding othersOf
+unfolding others-for
 returns-5 c = simp (c .enum-told5 .given .1)
 
 returns-6 : tie.Need-returns-6
-unfolding othersOf
+unfolding others-for
 returns-6 c = simp (c .enum-told6 .given .1)
 
 returns-7 : tie.Need-returns-7
-unfolding othersOf
+unfolding others-for
 returns-7 c = simp (c .enum-told7 .given .1)
 
 returns-8 : tie.Need-returns-8
-unfolding othersOf
+unfolding others-for
 returns-8 c = simp (c .enum-told8 .given .1)
 
 returns-9 : tie.Need-returns-9
-unfolding othersOf
+unfolding others-for
 returns-9 c = simp (c .enum-told9 .given .1)
 
 returns-10 : tie.Need-returns-10
-unfolding othersOf
+unfolding others-for
 returns-10 c = simp (c .enum-told10 .given .1)
 
 pub others-of-spec : {M : Type 1} → statement M

@@ -1,7 +1,7 @@
 -- Written by tools/prove from the file answers beside it: edit that, and not this.
 -- By the definition's tests, in its order.
 use Prim.Native.Nat.{_+_, _*_, _^_, _<_}
-use Rattle.script_machine.specs.Machine.{allowedOf}
+use Rattle.script_machine.specs.Machine.{allowed-of}
 use borrow.Author.Needs.{needs}
 use native.Mathlib.Omega.{arith}
 use borrow.Author.Tests.{lt-ltb, lt-leb, le-leb, le-ltb, eq-eqb, ne-eqb}
@@ -9,14 +9,14 @@ use Rattle.script_machine.proofs.start.allowed.Statement.{statement}
 use Rattle.script_machine.proofs.start.allowed.Tie as tie
 
 returns : tie.Need-returns
-unfolding allowedOf
+unfolding allowed-of
 returns c = simp (
   lt-ltb _ _ (c .if1 .taken),
   lt-leb _ _ (c .if1 .taken),
 )
 
 returns-2 : tie.Need-returns-2
-unfolding allowedOf
+unfolding allowed-of
 returns-2 c = simp (
   le-leb _ _ (c .before .if1 .left),
   le-ltb _ _ (c .before .if1 .left),
@@ -25,7 +25,7 @@ returns-2 c = simp (
 )
 
 returns-3 : tie.Need-returns-3
-unfolding allowedOf
+unfolding allowed-of
 returns-3 c = simp (
   le-leb _ _ (c .before .before .if1 .left),
   le-ltb _ _ (c .before .before .if1 .left),
@@ -42,7 +42,7 @@ add-if4 : tie.Need-add-if4
 add-if4 c = search needs
 
 returns-4 : tie.Need-returns-4
-unfolding allowedOf
+unfolding allowed-of
 returns-4 c = simp (
   le-leb _ _ (c .before .before .before .if1 .left),
   le-ltb _ _ (c .before .before .before .if1 .left),
@@ -55,7 +55,7 @@ returns-4 c = simp (
 )
 
 returns-5 : tie.Need-returns-5
-unfolding allowedOf
+unfolding allowed-of
 returns-5 c = simp (
   le-leb _ _ (c .before .before .before .before .if1 .left),
   le-ltb _ _ (c .before .before .before .before .if1 .left),
@@ -69,7 +69,7 @@ returns-5 c = simp (
 )
 
 returns-6 : tie.Need-returns-6
-unfolding allowedOf
+unfolding allowed-of
 returns-6 c = let h : 2 ^ 48 < c .before .before .before .before .before .before .args .base + 4096 * c .before .before .before .before .before .before .args .frames = omega arith in
     simp (
       le-leb _ _ (c .before .before .before .before .before .if1 .left),
@@ -93,7 +93,7 @@ add-if7 : tie.Need-add-if7
 add-if7 c = search needs
 
 returns-7 : tie.Need-returns-7
-unfolding allowedOf
+unfolding allowed-of
 returns-7 c = simp (
   le-leb _ _ (c .before .before .before .before .before .before .if1 .left),
   le-ltb _ _ (c .before .before .before .before .before .before .if1 .left),
@@ -111,7 +111,7 @@ returns-7 c = simp (
 )
 
 returns-8 : tie.Need-returns-8
-unfolding allowedOf
+unfolding allowed-of
 returns-8 c = simp (
   le-leb _ _ (c .before .before .before .before .before .before .if1 .left),
   le-ltb _ _ (c .before .before .before .before .before .before .if1 .left),

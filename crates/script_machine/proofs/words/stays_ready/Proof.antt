@@ -1,7 +1,7 @@
 -- Written by tools/prove from the file answers beside it: edit that, and not this.
 -- The slice has the machine's ledger, and the word is in RAM.
 use mathlib.Core.Path.{_∙_, sym}
-use Rattle.script_machine.specs.Machine.{inTable}
+use Rattle.script_machine.specs.Machine.{word-in-table}
 use Rattle.script_machine.specs.Laws.{size-is, ledger-part}
 use Rattle.script_machine.proofs.Laws.{place}
 use borrow.Author.Needs.{needs}
@@ -25,14 +25,14 @@ in-table-requires : tie.Need-in-table-requires
 in-table-requires c κs = let p = place _ _ (c .before .before .before .before .before .before .pre .1) in
     let w = c .before .before .before .before .before .before .pre .0 .within in
     let n = size-is (c .before .before .before .before .before .before .pre .0) (c .before .before .before .if1 .taken) in
-    (c .before .before .before .before .before .before .pre .0 .sound (c .before .before .before .if1 .taken) .stock, (omega (arith, p .1), omega (arith, p .1)))
+    (c .before .before .before .before .before .before .pre .0 .sound (c .before .before .before .if1 .taken) .ledger-sound, (omega (arith, p .1), omega (arith, p .1)))
 
 returns : tie.Need-returns
-unfolding inTable
+unfolding word-in-table
 returns c = rw (c .before .before .before .before .before .if1 .taken, sym (c .before .in-table .ensures) ∙ c .if2 .taken)
 
 returns-2 : tie.Need-returns-2
-unfolding inTable
+unfolding word-in-table
 returns-2 c = rw (c .before .before .before .before .before .if1 .taken, sym (c .before .in-table .ensures) ∙ c .if2 .left)
 
 returns-3 : tie.Need-returns-3

@@ -1,6 +1,6 @@
 -- Written by tools/prove from the file answers beside it: edit that, and not this.
 -- Part after part.
-use Rattle.script_print.specs.Answer.{answerText}
+use Rattle.script_print.specs.Answer.{answer-text}
 use Rattle.script_text.proofs.Printing.{wrote-then, wrote-within}
 use borrow.Author.Needs.{needs}
 use native.Mathlib.Omega.{arith}
@@ -47,28 +47,28 @@ same-length : tie.Need-same-length
 same-length c = search needs
 
 returns : tie.Need-returns
-unfolding answerText
+unfolding answer-text
 returns c = wrote-within (wrote-then (c .before .before .before .before .before .before .put-hex .ensures) (c .before .before .put-fetched .ensures)) (omega arith) (rw (c .before .before .before .before .before .before .before .before .before .a .given .1))
 
 same-length-2 : tie.Need-same-length-2
 same-length-2 c = search needs
 
 returns-2 : tie.Need-returns-2
-unfolding answerText
+unfolding answer-text
 returns-2 c = wrote-within (wrote-then (c .before .before .before .before .before .before .put-fault .ensures) (c .before .before .put-fetched2 .ensures)) (omega arith) (rw (c .before .before .before .before .before .before .before .before .before .a2 .given .1))
 
 same-length-3 : tie.Need-same-length-3
 same-length-3 c = search needs
 
 returns-3 : tie.Need-returns-3
-unfolding answerText
+unfolding answer-text
 returns-3 c = wrote-within (wrote-then (c .before .before .before .before .before .before .put-during .ensures) (c .before .before .put-fetched3 .ensures)) (omega arith) (rw (c .before .before .before .before .before .before .before .before .before .a3 .given .1))
 
 same-length-4 : tie.Need-same-length-4
 same-length-4 c = search needs
 
 returns-4 : tie.Need-returns-4
-unfolding answerText
+unfolding answer-text
 returns-4 c = wrote-within (c .before .before .put .ensures) (omega arith) (rw (c .before .before .before .before .before .enum-told .given .1))
 
 pub put-answer-spec : {M : Type 1} → statement M

@@ -1,6 +1,6 @@
 -- Written by tools/prove from the file answers beside it: edit that, and not this.
 -- Part after part.
-use Rattle.script_print.specs.Answer.{duringText}
+use Rattle.script_print.specs.Answer.{during-text}
 use Rattle.script_text.proofs.Printing.{wrote-then}
 use borrow.Author.Needs.{needs}
 use Rattle.script_print.proofs.answers.put_during.Statement.{statement}
@@ -19,7 +19,7 @@ same-length : tie.Need-same-length
 same-length c = search needs
 
 returns : tie.Need-returns
-unfolding duringText
+unfolding during-text
 returns c = wrote-then (c .before .before .before .before .before .before .before .put-fault .ensures) (c .before .before .put-field .ensures)
 
 pub put-during-spec : {M : Type 1} → statement M

@@ -1,6 +1,6 @@
 -- Written by tools/prove from the file answers beside it: edit that, and not this.
 -- The text and the number.
-use Rattle.script_print.specs.Answer.{fetchedText}
+use Rattle.script_print.specs.Answer.{fetched-text}
 use borrow.Author.Needs.{needs}
 use Rattle.script_print.proofs.answers.put_fetched.Statement.{statement}
 use Rattle.script_print.proofs.answers.put_fetched.Tie as tie
@@ -15,7 +15,7 @@ same-length : tie.Need-same-length
 same-length c = search needs
 
 returns : tie.Need-returns
-unfolding fetchedText
+unfolding fetched-text
 returns c = c .before .before .put-field .ensures
 
 pub put-fetched-spec : {M : Type 1} → statement M

@@ -5,20 +5,20 @@ use mathlib.Core.Path.{_≡_, refl}
 use lib.ListN.{length}
 use Rattle.script_text.specs.Wrote.{Wrote}
 use Rattle.ledger.specs.Layout.{state-of, state-in}
-use Rattle.script_print.specs.Frame.{linesTo}
+use Rattle.script_print.specs.Frame.{lines-to}
 use Rattle.script_print.proofs.Listing.{lines-none, lines-more, lines-all}
 use native.Mathlib.Omega.{arith}
 use Rattle.script_print.proofs.frames.put_ledger.Statement.{statement}
 use Rattle.script_print.proofs.frames.put_ledger.Tie as tie
 
 abbrev Inv-loop : tie.InvT-loop
-Inv-loop out₀ at ram ledger n next₀ f₀ out next f = (f ≤ n) × (length out ≡ length out₀) × Wrote (160 * f) out₀ at out next (linesTo (state-of ram ledger) f)
+Inv-loop out₀ at ram ledger n next₀ f₀ out next f = (f ≤ n) × (length out ≡ length out₀) × Wrote (160 * f) out₀ at out next (lines-to (state-of ram ledger) f)
 
 abbrev μ-loop : tie.MeasureT-loop
 μ-loop out₀ at ram ledger n next₀ f₀ out next f = n - f
 
 size-requires : tie.Need-size-requires Inv-loop μ-loop
-size-requires c κs = c .before .before .before .pre .0 .stock
+size-requires c κs = c .before .before .before .pre .0 .ledger-sound
 
 loop-holds : tie.Need-loop-holds Inv-loop μ-loop
 loop-holds c = (omega arith, refl, lines-none ((state-of (c .before .before .before .before .args .ram .now) (c .before .before .before .before .args .ledger .now))))

@@ -1,7 +1,7 @@
 -- Written by tools/prove from the file answers beside it: edit that, and not this.
 -- Part after part, and the line's end.
 use mathlib.Core.Path.{refl}
-use Rattle.script_print.specs.Frame.{lineText}
+use Rattle.script_print.specs.Frame.{line-text}
 use Rattle.script_text.proofs.Printing.{wrote-then, wrote-within}
 use borrow.Author.Needs.{needs}
 use native.Mathlib.Omega.{arith}
@@ -30,7 +30,7 @@ same-length : tie.Need-same-length
 same-length c = search needs
 
 returns : tie.Need-returns
-unfolding lineText
+unfolding line-text
 returns c = wrote-within (wrote-then (wrote-then (wrote-then (c .before .before .before .before .before .before .before .before .before .before .before .before .before .before .before .before .put-decimal .ensures) (c .before .before .before .before .before .before .before .before .before .before .before .put .ensures)) (c .before .before .before .before .before .before .before .put-frame .ensures)) (c .before .before .put2 .ensures)) (omega arith) refl
 
 pub put-line-spec : {M : Type 1} → statement M

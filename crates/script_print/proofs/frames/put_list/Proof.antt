@@ -7,7 +7,7 @@ use Rattle.script_text.specs.Wrote.{Wrote}
 use Rattle.model.specs.State.{guests}
 use Rattle.ledger.specs.Layout.{state-of}
 use Rattle.monitor_query.specs.Questions.{share-told}
-use Rattle.script_print.specs.Frame.{listTo}
+use Rattle.script_print.specs.Frame.{list-to}
 use Rattle.script_print.proofs.Listing.{list-none, list-passed, list-more, list-empty, list-full}
 use borrow.Author.Needs.{needs}
 use native.Mathlib.Omega.{arith}
@@ -15,7 +15,7 @@ use Rattle.script_print.proofs.frames.put_list.Statement.{statement}
 use Rattle.script_print.proofs.frames.put_list.Tie as tie
 
 abbrev Inv-loop : tie.InvT-loop
-Inv-loop out₀ at ram ledger f least next₀ g₀ t10 out next g = (g ≤ guests) × (length out ≡ length out₀) × Wrote (2 * g) out₀ at out next (listTo least (share-told (state-of ram ledger) f) g)
+Inv-loop out₀ at ram ledger f least next₀ g₀ t10 out next g = (g ≤ guests) × (length out ≡ length out₀) × Wrote (2 * g) out₀ at out next (list-to least (share-told (state-of ram ledger) f) g)
 
 abbrev μ-loop : tie.MeasureT-loop
 μ-loop out₀ at ram ledger f least next₀ g₀ t10 out next g = guests - g

@@ -1,6 +1,6 @@
 -- Written by tools/prove from the file answers beside it: edit that, and not this.
 -- The word, or nothing.
-use Rattle.script_print.specs.Guest.{dirtyText}
+use Rattle.script_print.specs.Guest.{dirty-text}
 use Rattle.script_print.proofs.Listing.{wrote-nothing}
 use Rattle.script_text.proofs.Printing.{wrote-within}
 use borrow.Author.Needs.{needs}
@@ -18,11 +18,11 @@ same-length : tie.Need-same-length
 same-length c = search needs
 
 returns : tie.Need-returns
-unfolding dirtyText
+unfolding dirty-text
 returns c = wrote-within (c .before .before .put .ensures) (omega arith) (rw (c .before .before .before .before .before .if1 .taken))
 
 returns-2 : tie.Need-returns-2
-unfolding dirtyText
+unfolding dirty-text
 returns-2 c = wrote-within {a = 6} wrote-nothing (omega arith) (rw (c .if1 .left))
 
 pub put-dirty-spec : {M : Type 1} → statement M

@@ -1,6 +1,6 @@
 -- Written by tools/prove from the file answers beside it: edit that, and not this.
 -- Part after part.
-use Rattle.script_print.specs.Guest.{guestText}
+use Rattle.script_print.specs.Guest.{guest-text}
 use Rattle.script_text.proofs.Printing.{wrote-then, wrote-within}
 use borrow.Author.Needs.{needs}
 use native.Mathlib.Omega.{arith}
@@ -47,21 +47,21 @@ same-length : tie.Need-same-length
 same-length c = search needs
 
 returns : tie.Need-returns
-unfolding guestText
+unfolding guest-text
 returns c = wrote-within (c .before .before .put .ensures) (omega arith) (rw (c .before .before .before .before .before .enum-told .given .1))
 
 same-length-2 : tie.Need-same-length-2
 same-length-2 c = search needs
 
 returns-2 : tie.Need-returns-2
-unfolding guestText
+unfolding guest-text
 returns-2 c = wrote-within (wrote-then (c .before .before .before .before .before .before .put2 .ensures) (c .before .before .put-dirty .ensures)) (omega arith) (rw (c .before .before .before .before .before .before .before .before .before .before .g .given .1))
 
 same-length-3 : tie.Need-same-length-3
 same-length-3 c = search needs
 
 returns-3 : tie.Need-returns-3
-unfolding guestText
+unfolding guest-text
 returns-3 c = wrote-within (wrote-then (wrote-then (c .before .before .before .before .before .before .before .before .before .before .put3 .ensures) (c .before .before .before .before .before .before .put-hex .ensures)) (c .before .before .put-dirty2 .ensures)) (omega arith) (rw (c .before .before .before .before .before .before .before .before .before .before .before .before .before .before .g2 .given .1))
 
 pub put-guest-spec : {M : Type 1} → statement M

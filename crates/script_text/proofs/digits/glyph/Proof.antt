@@ -1,6 +1,6 @@
 -- Written by tools/prove from the file answers beside it: edit that, and not this.
 -- By the definition's cases.
-use Rattle.script_text.specs.Digits.{glyphOf}
+use Rattle.script_text.specs.Digits.{glyph-of}
 use borrow.Author.Needs.{needs}
 use borrow.Author.Tests.{lt-ltb, lt-leb, le-leb, le-ltb}
 use Rattle.script_text.proofs.digits.glyph.Statement.{statement}
@@ -13,7 +13,7 @@ add-result : tie.Need-add-result
 add-result c = search needs
 
 returns : tie.Need-returns
-unfolding glyphOf
+unfolding glyph-of
 returns c = simp (
   lt-ltb _ _ (c .if1 .taken),
   lt-leb _ _ (c .if1 .taken),
@@ -26,7 +26,7 @@ add-result-2 : tie.Need-add-result-2
 add-result-2 c = search needs
 
 returns-2 : tie.Need-returns-2
-unfolding glyphOf
+unfolding glyph-of
 returns-2 c = simp (
   le-leb _ _ (c .if1 .left),
   le-ltb _ _ (c .if1 .left),

@@ -1,6 +1,6 @@
 -- Written by tools/prove from the file answers beside it: edit that, and not this.
 -- In base 10.
-use Rattle.script_text.specs.Digits.{decimalOf}
+use Rattle.script_text.specs.Digits.{decimal-of}
 use borrow.Author.Needs.{needs}
 use Rattle.script_text.proofs.digits.put_decimal.Statement.{statement}
 use Rattle.script_text.proofs.digits.put_decimal.Tie as tie
@@ -12,7 +12,7 @@ same-length : tie.Need-same-length
 same-length c = search needs
 
 returns : tie.Need-returns
-unfolding decimalOf
+unfolding decimal-of
 returns c = c .before .before .put-number .ensures
 
 pub put-decimal-spec : {M : Type 1} → statement M

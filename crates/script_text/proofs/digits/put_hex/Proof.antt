@@ -1,6 +1,6 @@
 -- Written by tools/prove from the file answers beside it: edit that, and not this.
 -- 0x, and then the number in base 16.
-use Rattle.script_text.specs.Digits.{hexOf}
+use Rattle.script_text.specs.Digits.{hex-of}
 use Rattle.script_text.proofs.Printing.{wrote-then}
 use borrow.Author.Needs.{needs}
 use Rattle.script_text.proofs.digits.put_hex.Statement.{statement}
@@ -19,7 +19,7 @@ same-length : tie.Need-same-length
 same-length c = search needs
 
 returns : tie.Need-returns
-unfolding hexOf
+unfolding hex-of
 returns c = wrote-then (c .before .before .before .before .before .before .put .ensures) (c .before .before .put-number .ensures)
 
 pub put-hex-spec : {M : Type 1} → statement M

@@ -1,6 +1,6 @@
 -- Written by tools/prove from the file answers beside it: edit that, and not this.
 -- Twenty digits, without the zeros in front.
-use Rattle.script_text.specs.Digits.{numeralOf}
+use Rattle.script_text.specs.Digits.{numeral-of}
 use Rattle.script_text.proofs.Printing.{stripped-wrote}
 use borrow.Author.Needs.{needs}
 use Rattle.script_text.proofs.digits.put_number.Statement.{statement}
@@ -34,7 +34,7 @@ same-length : tie.Need-same-length
 same-length c = search needs
 
 returns : tie.Need-returns
-unfolding numeralOf
+unfolding numeral-of
 returns c = stripped-wrote (c .before .before .before .before .before .before .before .before .before .before .before .before .args .base) 20 (c .before .before .before .before .before .before .before .before .before .spell .last .0) (c .before .before .before .before .before .before .before .before .before .before .before .before .args .n) (c .before .before .before .before .before .before .zeros .result) (c .before .before .before .before .before .before .before .before .before .spell .ensures) (c .before .before .before .before .before .before .zeros .ensures .1) (c .before .before .put .ensures)
 
 pub put-number-spec : {M : Type 1} → statement M

@@ -1,6 +1,6 @@
 -- Written by tools/prove from the file answers beside it: edit that, and not this.
 -- Sixteen digits.
-use Rattle.script_text.specs.Digits.{sixteenOf}
+use Rattle.script_text.specs.Digits.{sixteen-of}
 use Rattle.script_text.proofs.Printing.{wrote-then, digits-wrote}
 use borrow.Author.Needs.{needs}
 use Rattle.script_text.proofs.digits.put_word.Statement.{statement}
@@ -28,7 +28,7 @@ same-length : tie.Need-same-length
 same-length c = search needs
 
 returns : tie.Need-returns
-unfolding sixteenOf
+unfolding sixteen-of
 returns c = wrote-then (c .before .before .before .before .before .before .before .put .ensures) (digits-wrote 16 16 (c .before .before .before .before .before .before .before .before .before .before .before .before .before .before .args .n) (c .before .before .before .before .before .before .before .before .before .before .before .spell .ensures) (c .before .before .put2 .ensures))
 
 pub put-word-spec : {M : Type 1} → statement M

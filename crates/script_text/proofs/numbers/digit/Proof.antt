@@ -1,13 +1,13 @@
 -- Written by tools/prove from the file answers beside it: edit that, and not this.
 -- Each range of characters by its two bounds.
-use Rattle.script_text.specs.Number.{digitOf}
+use Rattle.script_text.specs.Number.{digit-of}
 use borrow.Author.Needs.{needs}
 use borrow.Author.Tests.{lt-ltb, lt-leb, le-leb, le-ltb}
 use Rattle.script_text.proofs.numbers.digit.Statement.{statement}
 use Rattle.script_text.proofs.numbers.digit.Tie as tie
 
 returns : tie.Need-returns
-unfolding digitOf
+unfolding digit-of
 returns c = simp (
   lt-ltb _ _ (c .if1 .taken),
   lt-leb _ _ (c .if1 .taken),
@@ -17,7 +17,7 @@ sub-result : tie.Need-sub-result
 sub-result c = search needs
 
 returns-2 : tie.Need-returns-2
-unfolding digitOf
+unfolding digit-of
 returns-2 c = simp (
   le-leb _ _ (c .before .if1 .left),
   le-ltb _ _ (c .before .if1 .left),
@@ -26,7 +26,7 @@ returns-2 c = simp (
 )
 
 returns-3 : tie.Need-returns-3
-unfolding digitOf
+unfolding digit-of
 returns-3 c = simp (
   le-leb _ _ (c .before .before .if1 .left),
   le-ltb _ _ (c .before .before .if1 .left),
@@ -40,7 +40,7 @@ sub-result-2 : tie.Need-sub-result-2
 sub-result-2 c = search needs
 
 returns-4 : tie.Need-returns-4
-unfolding digitOf
+unfolding digit-of
 returns-4 c = simp (
   le-leb _ _ (c .before .before .before .if1 .left),
   le-ltb _ _ (c .before .before .before .if1 .left),
@@ -53,7 +53,7 @@ returns-4 c = simp (
 )
 
 returns-5 : tie.Need-returns-5
-unfolding digitOf
+unfolding digit-of
 returns-5 c = simp (
   le-leb _ _ (c .before .before .before .before .if1 .left),
   le-ltb _ _ (c .before .before .before .before .if1 .left),
@@ -71,7 +71,7 @@ sub-result-3 : tie.Need-sub-result-3
 sub-result-3 c = search needs
 
 returns-6 : tie.Need-returns-6
-unfolding digitOf
+unfolding digit-of
 returns-6 c = simp (
   le-leb _ _ (c .before .before .before .before .before .if1 .left),
   le-ltb _ _ (c .before .before .before .before .before .if1 .left),
@@ -88,7 +88,7 @@ returns-6 c = simp (
 )
 
 returns-7 : tie.Need-returns-7
-unfolding digitOf
+unfolding digit-of
 returns-7 c = simp (
   le-leb _ _ (c .before .before .before .before .before .if1 .left),
   le-ltb _ _ (c .before .before .before .before .before .if1 .left),

@@ -1,6 +1,6 @@
 -- Written by tools/prove from the file answers beside it: edit that, and not this.
 -- By the definition's cases.
-use Rattle.script_text.specs.Number.{moreOf, addDigit}
+use Rattle.script_text.specs.Number.{more-of, add-digit}
 use borrow.Author.Needs.{needs}
 use mathlib.Core.Path.{sym}
 use borrow.Author.Tests.{lt-ltb, lt-leb, le-leb, le-ltb}
@@ -11,7 +11,7 @@ digit-requires : tie.Need-digit-requires
 digit-requires c κs = search needs
 
 returns : tie.Need-returns
-unfolding moreOf
+unfolding more-of
 returns c = simp (
   sym (c .before .digit .ensures),
   le-leb _ _ (c .if1 .taken),
@@ -31,7 +31,7 @@ enum-told-2 : tie.Need-enum-told-2
 enum-told-2 c = search needs
 
 returns-2 : tie.Need-returns-2
-unfolding moreOf addDigit
+unfolding more-of add-digit
 returns-2 c = simp (
   sym (c .before .before .before .before .before .digit .ensures),
   lt-ltb _ _ (c .before .before .before .before .if1 .left),
@@ -41,7 +41,7 @@ returns-2 c = simp (
 )
 
 returns-3 : tie.Need-returns-3
-unfolding moreOf addDigit
+unfolding more-of add-digit
 returns-3 c = simp (
   sym (c .before .before .before .digit .ensures),
   lt-ltb _ _ (c .before .before .if1 .left),
@@ -50,7 +50,7 @@ returns-3 c = simp (
 )
 
 returns-4 : tie.Need-returns-4
-unfolding moreOf addDigit
+unfolding more-of add-digit
 returns-4 c = simp (
   sym (c .before .before .before .digit .ensures),
   lt-ltb _ _ (c .before .before .if1 .left),

@@ -1,7 +1,7 @@
 -- Written by tools/prove from the file answers beside it: edit that, and not this.
 -- By the definition's cases.
 use mathlib.Core.Path.{ap, _∙_, sym}
-use Rattle.script_text.specs.Number.{readIn, hexed, numberOf}
+use Rattle.script_text.specs.Number.{read-numeral, hexed, number-of}
 use Rattle.script_text.proofs.Scanning.{rest}
 use borrow.Author.Needs.{needs}
 use borrow.Author.Tests.{lt-ltb, lt-leb, le-leb, le-ltb, eq-eqb, ne-eqb}
@@ -12,7 +12,7 @@ read-requires : tie.Need-read-requires
 read-requires c κs = search needs
 
 returns : tie.Need-returns
-unfolding numberOf hexed
+unfolding number-of hexed
 returns c = simp (
   lt-ltb _ _ (c .before .if1 .taken),
   lt-leb _ _ (c .before .if1 .taken),
@@ -26,7 +26,7 @@ read-requires-2 : tie.Need-read-requires-2
 read-requires-2 c κs = search needs
 
 returns-2 : tie.Need-returns-2
-unfolding numberOf hexed
+unfolding number-of hexed
 returns-2 c = simp (
   le-leb _ _ (c .before .before .before .if1 .left),
   le-ltb _ _ (c .before .before .before .if1 .left),
@@ -41,7 +41,7 @@ read-requires-3 : tie.Need-read-requires-3
 read-requires-3 c κs = search needs
 
 returns-3 : tie.Need-returns-3
-unfolding numberOf hexed
+unfolding number-of hexed
 returns-3 c = simp (
   le-leb _ _ (c .before .before .before .before .before .if1 .left),
   le-ltb _ _ (c .before .before .before .before .before .if1 .left),
@@ -63,8 +63,8 @@ read-requires-4 : tie.Need-read-requires-4
 read-requires-4 c κs = search needs
 
 returns-4 : tie.Need-returns-4
-unfolding numberOf hexed
-returns-4 c = let e = c .read4 .ensures ∙ ap (readIn 16) (rest 2 (c .before .before .before .before .before .before .before .before .args .s .now)) in
+unfolding number-of hexed
+returns-4 c = let e = c .read4 .ensures ∙ ap (read-numeral 16) (rest 2 (c .before .before .before .before .before .before .before .before .args .s .now)) in
     simp (
       le-leb _ _ (c .before .before .before .before .before .before .if1 .left),
       le-ltb _ _ (c .before .before .before .before .before .before .if1 .left),

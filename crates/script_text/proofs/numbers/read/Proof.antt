@@ -3,7 +3,7 @@
 use Prim.Native.Nat.{_≤_, _-_}
 use mathlib.Core.Path.{_≡_, ap, _∙_}
 use lib.ListN.{length}
-use Rattle.script_text.specs.Number.{readTo, readIn}
+use Rattle.script_text.specs.Number.{read-to, read-numeral}
 use Rattle.script_text.proofs.Reading.{read-none, read-more}
 use borrow.Author.Needs.{needs}
 use native.Mathlib.Omega.{arith}
@@ -12,13 +12,13 @@ use Rattle.script_text.proofs.numbers.read.Statement.{statement}
 use Rattle.script_text.proofs.numbers.read.Tie as tie
 
 abbrev Inv-loop : tie.InvT-loop
-Inv-loop s base n₀ i₀ n i = (i ≤ length s) × (n ≡ readTo base s i)
+Inv-loop s base n₀ i₀ n i = (i ≤ length s) × (n ≡ read-to base s i)
 
 abbrev μ-loop : tie.MeasureT-loop
 μ-loop s base n₀ i₀ n i = length s - i
 
 returns : tie.Need-returns Inv-loop μ-loop
-unfolding readIn
+unfolding read-numeral
 returns c = simp (eq-eqb _ _ (c .if1 .taken))
 
 loop-holds : tie.Need-loop-holds Inv-loop μ-loop
@@ -40,8 +40,8 @@ loop-again : tie.Need-loop-again Inv-loop μ-loop
 loop-again c = (omega arith, c .more .ensures ∙ read-more _ _ _ (c .before .before .before .before .before .before .pre) (c .before .before .before .loop .inv .1))
 
 returns-2 : tie.Need-returns-2 Inv-loop μ-loop
-unfolding readIn
-returns-2 c = simp (ne-eqb _ _ (c .before .before .if1 .left)) (c .before .loop .inv .1 ∙ ap (readTo _ _) (omega arith))
+unfolding read-numeral
+returns-2 c = simp (ne-eqb _ _ (c .before .before .if1 .left)) (c .before .loop .inv .1 ∙ ap (read-to _ _) (omega arith))
 
 pub read-spec : {M : Type 1} → statement M
 read-spec =

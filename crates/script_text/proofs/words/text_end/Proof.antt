@@ -4,7 +4,7 @@ use Prim.Native.Nat.{_≤_, _-_}
 use mathlib.Core.Path.{_≡_, refl, _∙_, sym}
 use mathlib.Core.List.{_++_}
 use lib.ListN.{length, take, drop}
-use Rattle.script_text.specs.Words.{textOf}
+use Rattle.script_text.specs.Words.{text-of}
 use Rattle.script_text.proofs.Scanning.{text-stop, text-more, text-last}
 use borrow.Author.Needs.{needs}
 use native.Mathlib.Omega.{arith}
@@ -12,7 +12,7 @@ use Rattle.script_text.proofs.words.text_end.Statement.{statement}
 use Rattle.script_text.proofs.words.text_end.Tie as tie
 
 abbrev Inv-loop : tie.InvT-loop
-Inv-loop line i₀ i = (i ≤ length line) × (textOf line ≡ take i line ++ textOf (drop i line))
+Inv-loop line i₀ i = (i ≤ length line) × (text-of line ≡ take i line ++ text-of (drop i line))
 
 abbrev μ-loop : tie.MeasureT-loop
 μ-loop line i₀ i = length line - i

@@ -1,0 +1,3 @@
+-- Laws, for proofs.
+pub mod Words
+pub mod Bytes
