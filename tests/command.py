@@ -2,6 +2,7 @@
 """Checks of the command ./pageledger itself: the tour, its ways to take a script, its refusals, its build; and of --help of all four."""
 
 import pathlib
+import re
 import shutil
 import subprocess
 import tempfile
@@ -14,6 +15,7 @@ COMMAND = HERE.parent / "pageledger"
 BUILT = HERE.parent / "target" / "bin" / "pageledger"
 SCRIPT = HERE / "scripts" / "worked-image.script"
 ANSWERS = SCRIPT.with_suffix(".expected").read_bytes()
+PAGES = [HERE.parent / page for page in ("README.md", "docs/SCRIPT.md", "docs/REFERENCE.md")]
 
 
 def refused(*words, command=COMMAND, **how):
@@ -32,14 +34,19 @@ def tour():
     return tally.problem([COMMAND], page, stdin=subprocess.DEVNULL)
 
 
-def session():
-    """A problem unless the session that README.md shows is what happens."""
-    shown = (HERE.parent / "README.md").read_text().partition("    $ cat self.script\n")[2]
-    script, _, printed = shown.partition("\n\n")[0].partition("    $ ./pageledger self.script\n")
-    script, printed = (textwrap.dedent(part).encode() for part in (script, printed + "\n"))
-    if b"setup" not in script:
-        return "there is none"
-    return tally.problem([COMMAND, "-"], printed, input=script)
+def sessions(page):
+    """The sessions that a page shows: the name of each, its script and what is printed, as bytes."""
+    shown = re.findall(r"^    \$ cat (\S+)\n((?:    .*\n)*?)    \$ \./pageledger \1\n((?:    .*\n)+)", page.read_text(), re.M)
+    return [(name, *(textwrap.dedent(part).encode() for part in parts)) for name, *parts in shown]
+
+
+def check_sessions(count):
+    """Each session of a page must be what happens, and a page must have some."""
+    for page in PAGES:
+        found = sessions(page)
+        count.check(f"sessions in {page.name}", None if found else "there are none")
+        for name, script, printed in found:
+            count.check(f"{name} in {page.name}", tally.problem([COMMAND, "--built", "-"], printed, input=script))
 
 
 def second_start():
@@ -85,7 +92,7 @@ def wrong_word(command, place):
 def main():
     count, nothing = tally.Tally(), subprocess.DEVNULL
     count.check("the tour", tour())
-    count.check("the session in README.md", session())
+    check_sessions(count)
     count.check("a second start", second_start())
     count.check("a script from standard input", tally.problem([COMMAND, "-"], ANSWERS, stdin=SCRIPT.open()))
     with tempfile.TemporaryDirectory() as folder:
