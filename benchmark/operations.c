@@ -121,7 +121,8 @@ static uint64_t seen(uint64_t root)
     uint64_t answer[PAGELEDGER_ANSWER_NUMBERS], sum = 0;
     for (uint64_t i = 0; i < PAGES; i += 7)
         for (uint64_t access = PAGELEDGER_READ; access <= PAGELEDGER_EXECUTE; access++) {
-            must(pageledger_stage2(ram, 4096 * size, base, size, root, 4096 * i + 8, access, answer, PAGELEDGER_ANSWER_NUMBERS), "stage 2");
+            must(pageledger_stage2(ram, 4096 * size, base, size, root, 4096 * i + 8, access, answer, PAGELEDGER_ANSWER_NUMBERS),
+                 "stage 2");
             sum = sum * 31 + answer[PAGELEDGER_ANSWER_WHAT] * 7 + answer[PAGELEDGER_ANSWER_ADDRESS] + answer[PAGELEDGER_ANSWER_KIND]
                   + answer[PAGELEDGER_ANSWER_LEVEL];
         }
@@ -161,7 +162,9 @@ static void compare(void)
                 must(give_and_take_all(ours), "give and take");
                 keep(began, &give[ours][run]);
             }
-    struct { const char *name; double (*times)[RUNS]; } rows[] = {{"map", map}, {"unmap", unmap}, {"map+unmap", pair}, {"give+take", give}};
+    struct { const char *name; double (*times)[RUNS]; } rows[] = {
+        {"map", map}, {"unmap", unmap}, {"map+unmap", pair}, {"give+take", give},
+    };
     for (int i = 0; i < 4; i++) {
         printf("compare %s", rows[i].name);
         print_runs(rows[i].times[0], PAGES);

@@ -9,7 +9,8 @@
 #include "pageledger.h"
 
 typedef uint64_t stage2_fn(const uint8_t *, size_t, uint64_t, uint64_t, uint64_t, uint64_t, uint64_t, uint64_t *, size_t);
-typedef uint64_t both_fn(const uint8_t *, size_t, uint64_t, uint64_t, uint64_t, uint64_t, uint64_t, uint64_t, uint64_t, uint64_t *, size_t);
+typedef uint64_t both_fn(const uint8_t *, size_t, uint64_t, uint64_t, uint64_t, uint64_t, uint64_t, uint64_t, uint64_t,
+                         uint64_t *, size_t);
 stage2_fn plain_stage2;
 both_fn plain_both_stages;
 

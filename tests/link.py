@@ -1,8 +1,8 @@
 #!/usr/bin/env python3
-"""link.py: the header is clean C and C++ and says the numbers that are proved, the examples link the library and print what they
-should, programs for Arm link it with nothing beside it, the same walks and operations come out alike on x86-64 and on Arm, and the Rust crate agrees with a second
-implementation of documents 01 and 03. Wants the kit, cc, c++ and cargo, and out/ as ./build writes it; and for Arm on another
-machine, where they are there, Debian's gcc-aarch64-linux-gnu and qemu-user."""
+"""link.py: the header is clean C and C++ and has the numbers that are proved, the examples link the library and print what they
+should, programs for Arm link it with nothing beside it, the same walks and operations come out alike on x86-64 and on Arm, and the
+Rust crate agrees with a second implementation of documents 01 and 03. Wants the kit, cc, c++ and cargo, and out/ as ./build writes
+it; and for Arm on another machine, where they are there, Debian's gcc-aarch64-linux-gnu and qemu-user."""
 
 import os
 import pathlib
@@ -16,8 +16,10 @@ import header
 import tally
 
 HERE = pathlib.Path(__file__).resolve().parent.parent
-# The examples, in C and in Rust, and what each prints.
-EXAMPLES = {"walk": "0x40001abc fetched 4\n", "monitor": "0x40008abc fetched 4\ntake answers 13, STILL_USED\n"}
+# What each example prints, in C and in Rust.
+WALK, MONITOR = "0x40001abc fetched 4\n", "0x40008abc fetched 4\ntake answers 13"
+IN_C = {"walk": WALK, "monitor": MONITOR + ", STILL_USED\n"}
+IN_RUST = {"walk": WALK, "monitor": MONITOR + ": the page is still mapped or shared\n"}
 HOST_TESTS = {"walks", "sizes", "worked_image", "operations", "wrong_answers", "cases::section_5", "cases::runs_out", "cases::set_up",
               "cases::questions", "cases::most_frames", "faces::refusals", "faces::rights", "faces::pages", "faces::between_threads"}
 STRICT = ["-Wall", "-Wextra", "-pedantic", "-Werror"]
@@ -130,7 +132,7 @@ def main():
             count.check(f"a dropped answer is warned of in {standard}", dropped_answer(compiler, language, standard, work))
         count.check("the names of refusals", refusal_names(work))
         for compiler, language, standard in (("cc", "c", "c99"), ("c++", "c++", "c++11")):
-            for name, expected in EXAMPLES.items():
+            for name, expected in IN_C.items():
                 program = f"{work}/{name}-{standard}"
                 command = [compiler, "-x", language, f"-std={standard}", *STRICT, "-Iout/include", f"examples/{name}.c",
                            "-x", "none", library, "-o", program]
@@ -143,7 +145,7 @@ def main():
         command = ["cc", "-std=c11", "-O2", "-fno-builtin", *STRICT, "tests/memory.c", "-o", f"{work}/memory"]
         count.check("support/memory.c beside the C library's", run(command) or run([f"{work}/memory"], "23960 of 23960 agree\n"))
     cargo = {"CARGO_TARGET_DIR": str(HERE / "target/host"), "CARGO_NET_OFFLINE": "true"}
-    for name, expected in EXAMPLES.items():
+    for name, expected in IN_RUST.items():
         command = ["cargo", "run", "--quiet", "--manifest-path", "examples/rust/Cargo.toml", "--bin", name]
         count.check(f"examples/rust, {name}", run(command, expected, **cargo))
     command = ["cargo", "test", "--manifest-path", "host/Cargo.toml", "--", "--nocapture", "--test-threads=1"]
