@@ -167,9 +167,9 @@ uint64_t pageledger_both_stages(const uint8_t *ram, size_t ram_length, uint64_t 
  * VTTBR_EL2 its root table (pageledger_guest) and a VMID that is its number's alone; in VTCR_EL2 PAGELEDGER_VTCR_EL2, on a processor
  * with 48 bits of physical address. */
 
-/* VTCR_EL2: bit 31 = 1, PS = 5 (48 bits), TG0 = 0 (4 KiB), SH0 = 3, ORGN0 = IRGN0 = 1, SL0 = 2 (from level 0), T0SZ = 16; all else 0,
- * among it HA and HD. Bit 19, VS, is the host's choice: VMIDs of 16 bits. */
-#define PAGELEDGER_VTCR_EL2 0x80053590u
+/* VTCR_EL2: bit 31 = 1, PS = 5 (48 bits), TG0 = 0 (4 KiB), SH0 = 3, ORGN0 = 1, IRGN0 = 1, SL0 = 2 (from level 0), T0SZ = 16 (48 bits);
+ * all else 0, among it HA and HD. Bit 19, VS, is the host's choice: VMIDs of 16 bits. */
+#define PAGELEDGER_VTCR_EL2 (1u << 31 | 5u << 16 | 0u << 14 | 3u << 12 | 1u << 10 | 1u << 8 | 2u << 6 | 16u)
 
 /* The lengths that set-up wants for n frames: RAM in bytes, the ledger in elements of 32 bits (64 bytes a frame, and 576). */
 #define PAGELEDGER_RAM_BYTES(n) ((size_t)(n) * 4096)
