@@ -6,6 +6,7 @@ import pathlib
 import re
 import struct
 
+import header
 import stack
 import tally
 
@@ -72,11 +73,6 @@ def members(archive):
             names = body
         elif name != "/":
             yield Object(name if not re.fullmatch(r"/\d+", name) else names[int(name[1:]):].split(b"/\n")[0].decode(), body)
-
-
-def functions_of_header():
-    text = re.sub(r"/\*.*?\*/", "", (OUT / "include/pageledger.h").read_text(), flags=re.S)
-    return set(re.findall(r"\b(pageledger_\w+)\(", text))
 
 
 # ---- Arm instructions, by their bits (Arm Architecture Reference Manual, "A64 instruction set encoding")
@@ -205,7 +201,7 @@ def check_archive(count, folder, machine, functions):
 
 def main():
     count = tally.Tally()
-    functions = functions_of_header()
+    functions = header.functions()
     count.demand("the header has functions", None if functions else "none was found")
     for folder, machine in (("x86_64-linux", X86_64), ("aarch64-linux", AARCH64), ("aarch64-none-elf", AARCH64)):
         try:
