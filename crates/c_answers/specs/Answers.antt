@@ -6,8 +6,8 @@ use mathlib.Core.Bool.{Bool, cond}
 use mathlib.Core.List.{List, [], _∷_, _++_}
 use lib.ListN.{length, drop}
 use lib.Dec.{ltb}
-use Rattle.walk_descriptor.specs.declared.Kind.{Kind}
-use Rattle.walk_descriptor.specs.declared.Kind.the-variants.{WalkAbort, Translation, NotModelled, AccessFlag, Permission}
+use Rattle.walk_descriptor.specs.declared.FaultKind.{FaultKind}
+use Rattle.walk_descriptor.specs.declared.FaultKind.the-variants.{WalkAbort, Translation, NotModelled, AccessFlag, Permission}
 use Rattle.walk.specs.declared.Answer.{Answer}
 use Rattle.walk.specs.declared.Answer.the-variants.{Found, Fault, During, Refused}
 use Rattle.monitor_query.specs.declared.FrameKind.{FrameKind}
@@ -16,7 +16,7 @@ use Rattle.monitor_query.specs.declared.GuestKind.{GuestKind}
 use Rattle.monitor_query.specs.declared.GuestKind.the-variants.{Nobody, Absent, Present}
 use Rattle.c_answers.specs.Numbers as C
 
-abbrev pub kind-number : Kind → ℕ
+abbrev pub kind-number : FaultKind → ℕ
 kind-number WalkAbort = C.walk-abort
 kind-number Translation = C.translation
 kind-number NotModelled = C.not-modelled
