@@ -2,14 +2,14 @@
 ghost use mathlib.Core.Path.{_≡_};
 ghost use Prim.Native.Nat.{_+_, _/_, _≤_};
 ghost use lib.ListN.{length};
-ghost use Rattle.script.specs.Answers.{Room};
-ghost use Rattle.pageledger.specs.Ready.{Ready};
+ghost use Rattle.script.specs.LineAnswered.{Room};
+ghost use Rattle.pageledger.specs.Progress.{Progress-sound};
 use libc::STDIN_FILENO;
 use libc::STDOUT_FILENO;
 use script_machine::Machine;
 
 // The machine, and how many bytes of the line and of the output are there.
-struct State {
+struct Progress {
     machine: Machine,
     line: usize,
     out: usize,
@@ -22,7 +22,7 @@ fn write_out(out: &[u8], n: usize)
 }
 
 // Writes the output where there is no room for another answer, and says how much of it is left.
-fn flushed(out: &[u8], ram: &[u8], n: usize) -> usize
+fn flush_if_full(out: &[u8], ram: &[u8], n: usize) -> usize
     requires { ⌜ (n ≤ length (now out)) × (Room (length (now ram)) (length (now out))) ⌝ }
     ensures { λ r. ⌜ r + (length (now (ram .entry)) / 16 + 256) ≤ length (now (out .entry)) ⌝ }
 {
@@ -35,23 +35,29 @@ fn flushed(out: &[u8], ram: &[u8], n: usize) -> usize
 }
 
 // Answers the line that was gathered.
-fn end_line(s: State, line: &[u8], ram: &mut [u8], ledger: &mut [u32], out: &mut [u8]) -> State
-    requires { ⌜ Ready s (length (now line)) (now ram) (now ledger) (length (now out)) ⌝ }
-    ensures { λ r. ⌜ Ready r (length (now (line .entry))) (now (ram .exit)) (now (ledger .exit)) (length (now (out .entry))) ⌝ }
+fn end_line(
+    s: Progress,
+    line: &[u8],
+    ram: &mut [u8],
+    ledger: &mut [u32],
+    out: &mut [u8],
+) -> Progress
+    requires { ⌜ Progress-sound s (length (now line)) (now ram) (now ledger) (length (now out)) ⌝ }
+    ensures { λ r. ⌜ Progress-sound r (length (now (line .entry))) (now (ram .exit)) (now (ledger .exit)) (length (now (out .entry))) ⌝ }
 {
     let n = s.line;
     let at = s.out;
     let done = script::answer_line(&line[..n], s.machine, ram, ledger, &mut out[at..]);
     let machine = done.machine;
-    State {
+    Progress {
         machine,
         line: 0,
-        out: flushed(out, ram, at + done.printed),
+        out: flush_if_full(out, ram, at + done.printed),
     }
 }
 
 // One byte more of a line. A line of 4,096 bytes or more stays one of 4,096.
-fn gather(s: State, line: &mut [u8], b: u8) -> State
+fn gather_byte(s: Progress, line: &mut [u8], b: u8) -> Progress
     requires { ⌜ s .line ≤ length (now line) ⌝ }
     ensures { λ r. ⌜ (r .line ≤ length (now (line .entry))) × (r .machine ≡ s .machine) × (r .out ≡ s .out) ⌝ }
 {
@@ -59,7 +65,7 @@ fn gather(s: State, line: &mut [u8], b: u8) -> State
     if n < line.len() {
         line[n] = b;
         let machine = s.machine;
-        return State {
+        return Progress {
             machine,
             line: n + 1,
             out: s.out,
@@ -68,49 +74,49 @@ fn gather(s: State, line: &mut [u8], b: u8) -> State
     s
 }
 
-fn take(
-    s: State,
+fn take_byte(
+    s: Progress,
     b: u8,
     line: &mut [u8],
     ram: &mut [u8],
     ledger: &mut [u32],
     out: &mut [u8],
-) -> State
-    requires { ⌜ Ready s (length (now line)) (now ram) (now ledger) (length (now out)) ⌝ }
-    ensures { λ r. ⌜ Ready r (length (now (line .entry))) (now (ram .exit)) (now (ledger .exit)) (length (now (out .entry))) ⌝ }
+) -> Progress
+    requires { ⌜ Progress-sound s (length (now line)) (now ram) (now ledger) (length (now out)) ⌝ }
+    ensures { λ r. ⌜ Progress-sound r (length (now (line .entry))) (now (ram .exit)) (now (ledger .exit)) (length (now (out .entry))) ⌝ }
 {
     if b == b'\n' {
         return end_line(s, line, ram, ledger, out);
     }
-    gather(s, line, b)
+    gather_byte(s, line, b)
 }
 
-fn take_all(
-    s: State,
+fn take_bytes(
+    s: Progress,
     chunk: &[u8],
     line: &mut [u8],
     ram: &mut [u8],
     ledger: &mut [u32],
     out: &mut [u8],
-) -> State
-    requires { ⌜ Ready s (length (now line)) (now ram) (now ledger) (length (now out)) ⌝ }
-    ensures { λ r. ⌜ Ready r (length (now (line .entry))) (now (ram .exit)) (now (ledger .exit)) (length (now (out .entry))) ⌝ }
+) -> Progress
+    requires { ⌜ Progress-sound s (length (now line)) (now ram) (now ledger) (length (now out)) ⌝ }
+    ensures { λ r. ⌜ Progress-sound r (length (now (line .entry))) (now (ram .exit)) (now (ledger .exit)) (length (now (out .entry))) ⌝ }
 {
     let mut t = s;
     let mut i = 0;
     while i < chunk.len() {
-        t = take(t, chunk[i], line, ram, ledger, out);
+        t = take_byte(t, chunk[i], line, ram, ledger, out);
         i += 1;
     }
     t
 }
 
 // A proved loop has to end, and nothing says that the input does: the turns are counted down from a number that no run uses up.
-fn serve(line: &mut [u8], ram: &mut [u8], ledger: &mut [u32], out: &mut [u8]) -> State
+fn read_input(line: &mut [u8], ram: &mut [u8], ledger: &mut [u32], out: &mut [u8]) -> Progress
     requires { ⌜ Room (length (now ram)) (length (now out)) ⌝ }
-    ensures { λ r. ⌜ Ready r (length (now (line .entry))) (now (ram .exit)) (now (ledger .exit)) (length (now (out .entry))) ⌝ }
+    ensures { λ r. ⌜ Progress-sound r (length (now (line .entry))) (now (ram .exit)) (now (ledger .exit)) (length (now (out .entry))) ⌝ }
 {
-    let mut s = State {
+    let mut s = Progress {
         machine: script_machine::no_machine(),
         line: 0,
         out: 0,
@@ -122,15 +128,15 @@ fn serve(line: &mut [u8], ram: &mut [u8], ledger: &mut [u32], out: &mut [u8]) ->
         if got == 0 {
             return s;
         }
-        s = take_all(s, &chunk[..got], line, ram, ledger, out);
+        s = take_bytes(s, &chunk[..got], line, ram, ledger, out);
         turns -= 1;
     }
     s
 }
 
 // The last line may have no line end; where there is none, nothing is printed for it.
-fn finish(s: State, line: &[u8], ram: &mut [u8], ledger: &mut [u32], out: &mut [u8])
-    requires { ⌜ Ready s (length (now line)) (now ram) (now ledger) (length (now out)) ⌝ }
+fn finish(s: Progress, line: &[u8], ram: &mut [u8], ledger: &mut [u32], out: &mut [u8])
+    requires { ⌜ Progress-sound s (length (now line)) (now ram) (now ledger) (length (now out)) ⌝ }
 {
     let t = end_line(s, line, ram, ledger, out);
     write_out(out, t.out);
@@ -138,7 +144,7 @@ fn finish(s: State, line: &[u8], ram: &mut [u8], ledger: &mut [u32], out: &mut [
 
 fn run(ram: &mut [u8; 4194304], ledger: &mut [u32; 16528], out: &mut [u8; 524288]) {
     let mut line = io::buffer();
-    let s = serve(&mut line, ram, ledger, out);
+    let s = read_input(&mut line, ram, ledger, out);
     finish(s, &line, ram, ledger, out);
 }
 

@@ -5,10 +5,10 @@ ghost use Prim.Native.Nat.{_+_, _*_, _≤_};
 ghost use lib.ListN.{length};
 ghost use Rattle.script_text.specs.Wrote.{Wrote};
 ghost use Rattle.ledger.specs.Layout.{state-of};
-ghost use Rattle.script_machine.specs.Laws.{Tellable};
-ghost use Rattle.script_machine.specs.Machine.{Kept, ram-of, ledger-of};
-ghost use Rattle.script_print.specs.Answer.{Says};
-ghost use Rattle.script.specs.Line.{text-of-reason, reply-text, mistake-text};
+ghost use Rattle.script_machine.specs.Printable.{Printable};
+ghost use Rattle.script_machine.specs.Machine.{Machine-sound, ram-of, ledger-of};
+ghost use Rattle.script_print.specs.Answer.{Holds-text};
+ghost use Rattle.script.specs.Printed.{reason-text, reply-text, mistake-text};
 ghost use Rattle.script_machine.specs.declared.Reply.the-variants.{Frame, Ledger};
 ghost use Rattle.script_text.specs.Text.{ascii};
 use script_language::Reason;
@@ -43,7 +43,7 @@ const NOT_TEXT: [u8; 20] = *b"not text            ";
 const LINE_TOO_LONG: [u8; 20] = *b"line too long       ";
 
 fn reason_text(why: Reason) -> Text
-    ensures { λ r. ⌜ Says r (text-of-reason why) ⌝ }
+    ensures { λ r. ⌜ Holds-text r (reason-text why) ⌝ }
 {
     match why {
         Reason::UnknownCommand => Text {
@@ -86,7 +86,7 @@ fn reason_text(why: Reason) -> Text
 }
 
 // A line's end.
-fn put_end(out: &mut [u8], at: usize) -> usize
+fn put_line_end(out: &mut [u8], at: usize) -> usize
     requires { ⌜ at + 1 ≤ length (now out) ⌝ }
     ensures { λ r. ⌜ Wrote 1 (now (out .entry)) at (now (out .exit)) r (ascii "\n") ⌝ }
 {
@@ -94,17 +94,17 @@ fn put_end(out: &mut [u8], at: usize) -> usize
 }
 
 fn put_frame_line(out: &mut [u8], m: Machine, ram: &[u8], ledger: &[u32], f: u64) -> usize
-    requires { ⌜ (Kept m (now ram) (now ledger)) × (m .ready ≡ true) × (256 ≤ length (now out)) ⌝ }
+    requires { ⌜ (Machine-sound m (now ram) (now ledger)) × (m .ready ≡ true) × (256 ≤ length (now out)) ⌝ }
     ensures { λ r. ⌜ Wrote 129 (now (out .entry)) 0 (now (out .exit)) r (reply-text (state-of (ram-of m (now (ram .entry))) (ledger-of m (now (ledger .entry)))) (Frame f)) ⌝ }
 {
     let n = (4096 * m.frames) as usize;
     let w = (144 + 16 * m.frames) as usize;
     let at = put_frame(out, 0, &ram[..n], &ledger[..w], f);
-    put_end(out, at)
+    put_line_end(out, at)
 }
 
 fn put_whole_ledger(out: &mut [u8], m: Machine, ram: &[u8], ledger: &[u32]) -> usize
-    requires { ⌜ (Kept m (now ram) (now ledger)) × (m .ready ≡ true) × (160 * m .frames ≤ length (now out)) ⌝ }
+    requires { ⌜ (Machine-sound m (now ram) (now ledger)) × (m .ready ≡ true) × (160 * m .frames ≤ length (now out)) ⌝ }
     ensures { λ r. ⌜ Wrote (160 * m .frames) (now (out .entry)) 0 (now (out .exit)) r (reply-text (state-of (ram-of m (now (ram .entry))) (ledger-of m (now (ledger .entry)))) Ledger) ⌝ }
 {
     let n = (4096 * m.frames) as usize;
@@ -114,31 +114,31 @@ fn put_whole_ledger(out: &mut [u8], m: Machine, ram: &[u8], ledger: &[u32]) -> u
 
 // A reply's line, with its end; the whole ledger has a line for each frame.
 pub fn put_reply(out: &mut [u8], reply: Reply, m: Machine, ram: &[u8], ledger: &[u32]) -> usize
-    requires { ⌜ (Kept m (now ram) (now ledger)) × (Tellable m reply) × (160 * m .frames + 256 ≤ length (now out)) ⌝ }
+    requires { ⌜ (Machine-sound m (now ram) (now ledger)) × (Printable m reply) × (160 * m .frames + 256 ≤ length (now out)) ⌝ }
     ensures { λ r. ⌜ Wrote (160 * m .frames + 256) (now (out .entry)) 0 (now (out .exit)) r (reply-text (state-of (ram-of m (now (ram .entry))) (ledger-of m (now (ledger .entry)))) reply) ⌝ }
 {
     match reply {
         Reply::Done => put(out, 0, b"ok\n"),
         Reply::OutsideRam => put(out, 0, b"refused\n"),
-        Reply::Code(n) => {
+        Reply::Number(n) => {
             let at = put_decimal(out, 0, n);
-            put_end(out, at)
+            put_line_end(out, at)
         }
         Reply::Contents(v) => {
             let at = put_word(out, 0, v);
-            put_end(out, at)
+            put_line_end(out, at)
         }
         Reply::Walked(a) => {
             let at = put_answer(out, 0, a);
-            put_end(out, at)
+            put_line_end(out, at)
         }
         Reply::Frame(f) => put_frame_line(out, m, ram, ledger, f),
         Reply::Guest(g) => {
             let at = put_guest(out, 0, g);
-            put_end(out, at)
+            put_line_end(out, at)
         }
         Reply::Ledger => put_whole_ledger(out, m, ram, ledger),
-        Reply::NoLedger => put(out, 0, b"error: setup needed\n"),
+        Reply::SetupNeeded => put(out, 0, b"error: setup needed\n"),
     }
 }
 
@@ -149,5 +149,5 @@ pub fn put_mistake(out: &mut [u8], why: Reason) -> usize
 {
     let at = put(out, 0, b"error: ");
     let end = put_text(out, at, reason_text(why));
-    put_end(out, end)
+    put_line_end(out, end)
 }

@@ -1,18 +1,18 @@
 // The script language's lines: a line is taken apart into a command, or into why it can't be read.
 // It knows the commands' words and arguments, and not what they do.
 ghost use mathlib.Core.Path.{_≡_};
-ghost use Rattle.script_language.specs.Commands.{read-after-first, read-words, read-of};
-ghost use Rattle.script_text.specs.Words.{unblank};
+ghost use Rattle.script_language.specs.Commands.{read-command, read-words, read-line};
+ghost use Rattle.script_text.specs.Words.{after-blanks};
 
-mod arguments;
+mod read_arguments;
 mod verbs;
 
-use arguments::arguments;
+use read_arguments::read_arguments;
 use script_text::words::is_text;
 use script_text::words::text_end;
 use script_text::words::word_end;
 use script_text::words::word_start;
-use verbs::First;
+use verbs::FirstWord;
 use verbs::first_word;
 
 // An operation of the monitor (document 03, section 3), as a script names it.
@@ -62,7 +62,7 @@ pub enum Question {
     PeekWord {
         at: u64,
     },
-    WalkOne {
+    WalkStage2 {
         root: u64,
         ipa: u64,
         access: u64,
@@ -116,43 +116,43 @@ pub enum Reason {
 }
 
 // What a line is.
-pub enum Read {
-    Nothing,
-    Asked(Command),
-    Unread(Reason),
+pub enum Line {
+    Empty,
+    Asks(Command),
+    Unreadable(Reason),
 }
 
-fn after_first(w: First, s: &[u8]) -> Read
-    ensures { λ r. ⌜ r ≡ read-after-first w (now (s .entry)) ⌝ }
+fn read_command(w: FirstWord, s: &[u8]) -> Line
+    ensures { λ r. ⌜ r ≡ read-command w (now (s .entry)) ⌝ }
 {
     match w {
-        First::Known(v) => arguments(v, s),
-        First::Unknown => Read::Unread(Reason::UnknownCommand),
+        FirstWord::Known(v) => read_arguments(v, s),
+        FirstWord::Unknown => Line::Unreadable(Reason::UnknownCommand),
     }
 }
 
-fn read_text(s: &[u8]) -> Read
-    ensures { λ r. ⌜ r ≡ read-words (unblank (now (s .entry))) ⌝ }
+fn read_words(s: &[u8]) -> Line
+    ensures { λ r. ⌜ r ≡ read-words (after-blanks (now (s .entry))) ⌝ }
 {
     let from = word_start(s, 0);
     if from == s.len() {
-        return Read::Nothing;
+        return Line::Empty;
     }
     let to = word_end(s, from);
-    after_first(first_word(&s[from..to]), &s[to..])
+    read_command(first_word(&s[from..to]), &s[to..])
 }
 
 // Reads a line, given without its line end.
-pub fn read_line(line: &[u8]) -> Read
-    ensures { λ r. ⌜ r ≡ read-of (now (line .entry)) ⌝ }
+pub fn read_line(line: &[u8]) -> Line
+    ensures { λ r. ⌜ r ≡ read-line (now (line .entry)) ⌝ }
 {
     if 4096 <= line.len() {
-        return Read::Unread(Reason::LineTooLong);
+        return Line::Unreadable(Reason::LineTooLong);
     }
     let end = text_end(line);
     let s = &line[..end];
     if is_text(s) {
-        return read_text(s);
+        return read_words(s);
     }
-    Read::Unread(Reason::NotText)
+    Line::Unreadable(Reason::NotText)
 }

@@ -1,3 +1,2 @@
 -- Laws of the definitions, for the proofs of the code.
-mod Based
-mod Laws
+pub mod Laws

@@ -1,7 +1,7 @@
 // The machine of a script: a command is answered on RAM and a ledger that the caller lends.
 ghost use mathlib.Core.Path.{_≡_};
 ghost use mathlib.Core.Bool.{false};
-ghost use Rattle.script_machine.specs.Machine.{Kept, Executed};
+ghost use Rattle.script_machine.specs.Machine.{Machine-sound, Executed};
 use monitor_query::GuestKind;
 use script_language::Command;
 use walk::Answer;
@@ -22,13 +22,13 @@ pub struct Machine {
 pub enum Reply {
     Done,
     OutsideRam,
-    Code(u64),
+    Number(u64),
     Contents(u64),
     Walked(Answer),
     Frame(u64),
     Guest(GuestKind),
     Ledger,
-    NoLedger,
+    SetupNeeded,
 }
 
 pub struct Outcome {
@@ -47,7 +47,7 @@ pub fn no_machine() -> Machine
 }
 
 pub fn execute(c: Command, m: Machine, ram: &mut [u8], ledger: &mut [u32]) -> Outcome
-    requires { ⌜ Kept m (now ram) (now ledger) ⌝ }
+    requires { ⌜ Machine-sound m (now ram) (now ledger) ⌝ }
     ensures { λ r. ⌜ Executed c m (now (ram .entry)) (now (ledger .entry)) (now (ram .exit)) (now (ledger .exit)) r ⌝ }
 {
     match c {

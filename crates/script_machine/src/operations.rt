@@ -4,7 +4,7 @@ ghost use Rattle.ledger.specs.Sound.{Sound};
 ghost use Rattle.monitor.specs.Answers.{Answers};
 ghost use Rattle.script_language.specs.declared.Command.the-variants.{Operate};
 ghost use Rattle.script_machine.specs.Operations.{operation};
-ghost use Rattle.script_machine.specs.Machine.{Kept, Executed};
+ghost use Rattle.script_machine.specs.Machine.{Machine-sound, Executed};
 use super::Machine;
 use super::Outcome;
 use super::Reply;
@@ -42,7 +42,7 @@ fn answer(o: Operation, ram: &mut [u8], ledger: &mut [u32]) -> u64
 }
 
 pub fn operate(o: Operation, m: Machine, ram: &mut [u8], ledger: &mut [u32]) -> Outcome
-    requires { ⌜ Kept m (now ram) (now ledger) ⌝ }
+    requires { ⌜ Machine-sound m (now ram) (now ledger) ⌝ }
     ensures { λ r. ⌜ Executed (Operate o) m (now (ram .entry)) (now (ledger .entry)) (now (ram .exit)) (now (ledger .exit)) r ⌝ }
 {
     if m.ready {
@@ -51,11 +51,11 @@ pub fn operate(o: Operation, m: Machine, ram: &mut [u8], ledger: &mut [u32]) -> 
         let k = answer(o, &mut ram[..n], &mut ledger[..w]);
         return Outcome {
             machine: m,
-            reply: Reply::Code(k),
+            reply: Reply::Number(k),
         };
     }
     Outcome {
         machine: m,
-        reply: Reply::NoLedger,
+        reply: Reply::SetupNeeded,
     }
 }

@@ -1,7 +1,7 @@
 // `setup`: RAM is cleared, and the monitor's set-up lays out the ledger.
 ghost use mathlib.Core.Path.{_≡_};
 ghost use Rattle.script_language.specs.declared.Command.the-variants.{SetUp};
-ghost use Rattle.script_machine.specs.Machine.{Kept, allowed-of, Executed};
+ghost use Rattle.script_machine.specs.Machine.{Machine-sound, allowed-of, Executed};
 use super::Machine;
 use super::Outcome;
 use super::Reply;
@@ -42,7 +42,7 @@ pub fn set_up(
     base: u64,
     monitor: u64,
 ) -> Outcome
-    requires { ⌜ Kept m (now ram) (now ledger) ⌝ }
+    requires { ⌜ Machine-sound m (now ram) (now ledger) ⌝ }
     ensures { λ r. ⌜ Executed (SetUp frames base monitor) m (now (ram .entry)) (now (ledger .entry)) (now (ram .exit)) (now (ledger .exit)) r ⌝ }
 {
     let lent = ram.len() / 4096;
@@ -58,11 +58,11 @@ pub fn set_up(
                 base,
                 ready: true,
             },
-            reply: Reply::Code(answer),
+            reply: Reply::Number(answer),
         };
     }
     Outcome {
         machine: m,
-        reply: Reply::Code(4),
+        reply: Reply::Number(4),
     }
 }

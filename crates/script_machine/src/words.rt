@@ -6,7 +6,7 @@ ghost use Rattle.model.specs.State.{tabled};
 ghost use Rattle.ledger.specs.Layout.{size-of, kind-of};
 ghost use Rattle.ledger.specs.LedgerSound.{Ledger-sound};
 ghost use Rattle.script_language.specs.declared.Command.the-variants.{StoreWord};
-ghost use Rattle.script_machine.specs.Machine.{Within, Kept, word-in-ram, word-in-table, peeked, Executed};
+ghost use Rattle.script_machine.specs.Machine.{Ram-lent, Machine-sound, word-in-ram, word-in-table, peek-reply, Executed};
 use super::Machine;
 use super::Outcome;
 use super::Reply;
@@ -56,7 +56,7 @@ fn in_table(ledger: &[u32], at: u64) -> bool
 
 // Is the machine ready when a word has been written at physical address a?
 fn stays_ready(m: Machine, ram: &[u8], ledger: &[u32], a: u64) -> bool
-    requires { ⌜ Kept m (now ram) (now ledger) ⌝ }
+    requires { ⌜ Machine-sound m (now ram) (now ledger) ⌝ }
     requires { ⌜ word-in-ram m a ≡ true ⌝ }
     ensures { λ r. ⌜ r ≡ (m .ready && not (word-in-table m (now (ledger .entry)) a)) ⌝ }
 {
@@ -71,7 +71,7 @@ fn stays_ready(m: Machine, ram: &[u8], ledger: &[u32], a: u64) -> bool
 }
 
 pub fn store_word(m: Machine, ram: &mut [u8], ledger: &[u32], a: u64, v: u64) -> Outcome
-    requires { ⌜ Kept m (now ram) (now ledger) ⌝ }
+    requires { ⌜ Machine-sound m (now ram) (now ledger) ⌝ }
     ensures { λ r. ⌜ Executed (StoreWord a v) m (now (ram .entry)) (now (ledger .entry)) (now (ram .exit)) (now (ledger .entry)) r ⌝ }
 {
     if in_ram(m, a) {
@@ -93,8 +93,8 @@ pub fn store_word(m: Machine, ram: &mut [u8], ledger: &[u32], a: u64, v: u64) ->
 }
 
 pub fn peek_word(m: Machine, ram: &[u8], a: u64) -> Reply
-    requires { ⌜ Within m (now ram) ⌝ }
-    ensures { λ r. ⌜ r ≡ peeked m (now (ram .entry)) a ⌝ }
+    requires { ⌜ Ram-lent m (now ram) ⌝ }
+    ensures { λ r. ⌜ r ≡ peek-reply m (now (ram .entry)) a ⌝ }
 {
     if in_ram(m, a) {
         return Reply::Contents(memory::word(ram, (a - m.base) as usize));

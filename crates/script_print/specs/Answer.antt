@@ -12,21 +12,21 @@ use Rattle.script_text.specs.Text.{ascii}
 use Rattle.script_text.specs.Digits.{decimal-of, hex-of}
 
 -- the first bytes of t are `text`
-pub record Says (t : Text) (text : List ℕ) : Type 0 where
+pub record Holds-text (t : Text) (text : List ℕ) : Type 0 where
   pub short : t .length ≤ 20
   pub there : t .length ≤ length (t .bytes)
   pub same : take (t .length) (t .bytes) ≡ text
 
-unfoldable pub text-of-kind : FaultKind → List ℕ
-text-of-kind WalkAbort = ascii "WALK_ABORT"
-text-of-kind Translation = ascii "TRANSLATION"
-text-of-kind NotModelled = ascii "NOT_MODELLED"
-text-of-kind AccessFlag = ascii "ACCESS_FLAG"
-text-of-kind Permission = ascii "PERMISSION"
+unfoldable pub kind-text : FaultKind → List ℕ
+kind-text WalkAbort = ascii "WALK_ABORT"
+kind-text Translation = ascii "TRANSLATION"
+kind-text NotModelled = ascii "NOT_MODELLED"
+kind-text AccessFlag = ascii "ACCESS_FLAG"
+kind-text Permission = ascii "PERMISSION"
 
 unfoldable pub fault-text : FaultKind → ℕ → ℕ → List ℕ
 fault-text k stage level =
-    text-of-kind k ++ (ascii " stage " ++ decimal-of stage) ++ (ascii " level " ++ decimal-of level)
+    kind-text k ++ (ascii " stage " ++ decimal-of stage) ++ (ascii " level " ++ decimal-of level)
 
 unfoldable pub during-text : FaultKind → ℕ → ℕ → List ℕ
 during-text k level of = fault-text k 2 level ++ (ascii " during stage 1 level " ++ decimal-of of)

@@ -15,34 +15,34 @@ abbrev pub empty : List ℕ → Bool
 empty l = eqb (length l) 0
 
 -- "separated by commas": one before each guest but the first
-unfoldable pub member-text : (first : Bool) (g : ℕ) → List ℕ
-member-text first g = cond first [] (ascii ",") ++ decimal-of g
+unfoldable pub listed-guest-text : (first : Bool) (g : ℕ) → List ℕ
+listed-guest-text first g = cond first [] (ascii ",") ++ decimal-of g
 
 -- "the guests in rising order": of 1 to g, those that `least` or more is shared with
-unfoldable pub list-to : (least : ℕ) (shares : ℕ → ℕ) (g : ℕ) → List ℕ
-list-to least shares zero = []
-list-to least shares (suc g) =
-    cond (leb least (shares (suc g))) (list-to least shares g ++ member-text (empty (list-to least shares g)) (suc g)) (list-to least shares g)
+unfoldable pub guest-list-to : (least : ℕ) (shares : ℕ → ℕ) (g : ℕ) → List ℕ
+guest-list-to least shares zero = []
+guest-list-to least shares (suc g) =
+    cond (leb least (shares (suc g))) (guest-list-to least shares g ++ listed-guest-text (empty (guest-list-to least shares g)) (suc g)) (guest-list-to least shares g)
 
 -- "or `-` for none"
-unfoldable pub list-text : (least : ℕ) (shares : ℕ → ℕ) → List ℕ
-list-text least shares = cond (empty (list-to least shares guests)) (ascii "-") (list-to least shares guests)
+unfoldable pub guest-list-text : (least : ℕ) (shares : ℕ → ℕ) → List ℕ
+guest-list-text least shares = cond (empty (guest-list-to least shares guests)) (ascii "-") (guest-list-to least shares guests)
 
 -- "`page G readers L writers L mapped N`": what is shared is 1 for reading, and 2 for writing too
 unfoldable pub page-text : (owner : ℕ) (shares : ℕ → ℕ) (mapped : ℕ) → List ℕ
 page-text owner shares mapped =
-    (ascii "page " ++ decimal-of owner) ++ ascii " readers " ++ list-text 1 shares ++ ascii " writers " ++ list-text 2 shares ++ (ascii " mapped " ++ decimal-of mapped)
+    (ascii "page " ++ decimal-of owner) ++ ascii " readers " ++ guest-list-text 1 shares ++ ascii " writers " ++ guest-list-text 2 shares ++ (ascii " mapped " ++ decimal-of mapped)
 
-unfoldable pub told-text : FrameKind → (shares : ℕ → ℕ) → List ℕ
-told-text Outside shares = ascii "4"
-told-text Monitor shares = ascii "monitor"
-told-text Free shares = ascii "free"
-told-text (Table g) shares = ascii "table " ++ decimal-of g
-told-text (Draining g) shares = ascii "draining " ++ decimal-of g
-told-text (Page g n) shares = page-text g shares n
+unfoldable pub frame-kind-text : FrameKind → (shares : ℕ → ℕ) → List ℕ
+frame-kind-text Outside shares = ascii "4"
+frame-kind-text Monitor shares = ascii "monitor"
+frame-kind-text Free shares = ascii "free"
+frame-kind-text (Table g) shares = ascii "table " ++ decimal-of g
+frame-kind-text (Draining g) shares = ascii "draining " ++ decimal-of g
+frame-kind-text (Page g n) shares = page-text g shares n
 
 unfoldable pub frame-text : State → (f : ℕ) → List ℕ
-frame-text s f = told-text (frame-told s f) (share-told s f)
+frame-text s f = frame-kind-text (frame-told s f) (share-told s f)
 
 -- "a line for each frame: its number, a space, what `frame` prints"
 unfoldable pub line-text : State → (f : ℕ) → List ℕ

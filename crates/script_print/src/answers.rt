@@ -2,7 +2,7 @@
 ghost use Prim.Native.Nat.{_+_, _≤_};
 ghost use lib.ListN.{length, take};
 ghost use Rattle.script_text.specs.Wrote.{Wrote};
-ghost use Rattle.script_print.specs.Answer.{Says, text-of-kind, fault-text, fetched-text, during-text, answer-text};
+ghost use Rattle.script_print.specs.Answer.{Holds-text, kind-text, fault-text, fetched-text, during-text, answer-text};
 use script_text::digits::put;
 use script_text::digits::put_field;
 use script_text::digits::put_hex;
@@ -26,7 +26,7 @@ const ACCESS_FLAG: [u8; 20] = *b"ACCESS_FLAG         ";
 const PERMISSION: [u8; 20] = *b"PERMISSION          ";
 
 fn kind_text(k: FaultKind) -> Text
-    ensures { λ r. ⌜ Says r (text-of-kind k) ⌝ }
+    ensures { λ r. ⌜ Holds-text r (kind-text k) ⌝ }
 {
     match k {
         FaultKind::WalkAbort => Text {

@@ -6,7 +6,7 @@ ghost use Rattle.model.specs.State.{guests};
 ghost use Rattle.ledger.specs.Layout.{size-of, state-of};
 ghost use Rattle.ledger.specs.Sound.{Sound};
 ghost use Rattle.monitor_query.specs.Questions.{share-told};
-ghost use Rattle.script_print.specs.Frame.{member-text, list-text, page-text, frame-text, line-text, ledger-text};
+ghost use Rattle.script_print.specs.Frame.{listed-guest-text, guest-list-text, page-text, frame-text, line-text, ledger-text};
 use ledger::header;
 use monitor_query::FrameKind;
 use monitor_query::shared_with;
@@ -16,9 +16,9 @@ use script_text::digits::put_decimal;
 use script_text::digits::put_field;
 
 // Guest g in a list; its number has one digit.
-fn put_member(out: &mut [u8], at: usize, first: bool, g: u64) -> usize
+fn put_listed_guest(out: &mut [u8], at: usize, first: bool, g: u64) -> usize
     requires { ⌜ (at + 21 ≤ length (now out)) × (g < 10) ⌝ }
-    ensures { λ r. ⌜ Wrote 2 (now (out .entry)) at (now (out .exit)) r (member-text first g) ⌝ }
+    ensures { λ r. ⌜ Wrote 2 (now (out .entry)) at (now (out .exit)) r (listed-guest-text first g) ⌝ }
 {
     if first {
         return put_decimal(out, at, g);
@@ -27,10 +27,17 @@ fn put_member(out: &mut [u8], at: usize, first: bool, g: u64) -> usize
 }
 
 // The guests that frame f is shared with: all of them where least is 1, those that may write where it is 2.
-fn put_list(out: &mut [u8], at: usize, ram: &[u8], ledger: &[u32], f: u64, least: u64) -> usize
+fn put_guest_list(
+    out: &mut [u8],
+    at: usize,
+    ram: &[u8],
+    ledger: &[u32],
+    f: u64,
+    least: u64,
+) -> usize
     requires { ⌜ Sound (now ram) (now ledger) ⌝ }
     requires { ⌜ at + 2 * guests + 20 ≤ length (now out) ⌝ }
-    ensures { λ r. ⌜ Wrote (2 * guests) (now (out .entry)) at (now (out .exit)) r (list-text least (share-told (state-of (now (ram .entry)) (now (ledger .entry))) f)) ⌝ }
+    ensures { λ r. ⌜ Wrote (2 * guests) (now (out .entry)) at (now (out .exit)) r (guest-list-text least (share-told (state-of (now (ram .entry)) (now (ledger .entry))) f)) ⌝ }
 {
     let mut next = at;
     let mut g: u64 = 0;
@@ -38,7 +45,7 @@ fn put_list(out: &mut [u8], at: usize, ram: &[u8], ledger: &[u32], f: u64, least
         g += 1;
         let share = shared_with(ram, ledger, f, g);
         if least <= share {
-            next = put_member(out, next, next == at, g);
+            next = put_listed_guest(out, next, next == at, g);
         }
     }
     if next == at {
@@ -62,9 +69,9 @@ fn put_page(
 {
     let owned = put_field(out, at, b"page ", owner);
     let readers = put(out, owned, b" readers ");
-    let read = put_list(out, readers, ram, ledger, f, 1);
+    let read = put_guest_list(out, readers, ram, ledger, f, 1);
     let writers = put(out, read, b" writers ");
-    let written = put_list(out, writers, ram, ledger, f, 2);
+    let written = put_guest_list(out, writers, ram, ledger, f, 2);
     put_field(out, written, b" mapped ", mapped)
 }
 

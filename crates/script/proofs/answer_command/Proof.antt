@@ -1,7 +1,7 @@
 -- Written by tools/prove from the file answers beside it: edit that, and not this.
 -- The command's outcome, and its text.
 use mathlib.Core.Path.{refl}
-use Rattle.script_machine.specs.Laws.{tellable}
+use Rattle.script_machine.proofs.Laws.Parts.{tellable}
 use borrow.Author.Needs.{needs}
 use native.Mathlib.Omega.{arith}
 use Rattle.script.proofs.answer_command.Statement.{statement}

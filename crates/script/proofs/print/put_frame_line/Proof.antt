@@ -1,8 +1,8 @@
 -- Written by tools/prove from the file answers beside it: edit that, and not this.
 -- The slices have the machine's parts.
-use Rattle.script_machine.specs.Laws.{ram-part, ledger-part}
-use Rattle.script.specs.Line.{reply-text}
-use Rattle.script_text.proofs.Printing.{wrote-then}
+use Rattle.script_machine.proofs.Laws.Parts.{ram-part, ledger-part}
+use Rattle.script.specs.Printed.{reply-text}
+use Rattle.script_text.proofs.Laws.Printing.{wrote-then}
 use borrow.Author.Needs.{needs}
 use native.Mathlib.Omega.{arith}
 use Rattle.script.proofs.print.put_frame_line.Statement.{statement}

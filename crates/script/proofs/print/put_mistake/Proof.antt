@@ -1,7 +1,7 @@
 -- Written by tools/prove from the file answers beside it: edit that, and not this.
 -- Part after part, and the line's end.
-use Rattle.script.specs.Line.{mistake-text}
-use Rattle.script_text.proofs.Printing.{wrote-then, wrote-within}
+use Rattle.script.specs.Printed.{mistake-text}
+use Rattle.script_text.proofs.Laws.Printing.{wrote-then, wrote-within}
 use borrow.Author.Needs.{needs}
 use native.Mathlib.Omega.{arith}
 use Rattle.script.proofs.print.put_mistake.Statement.{statement}

@@ -6,9 +6,9 @@ use Prim.Native.Nat.{ℕ}
 use Rattle.script_machine.specs.declared.Machine.{Machine}
 use Rattle.script_machine.specs.declared.Reply.{Reply}
 use Rattle.script_machine.specs.declared.Reply.the-variants.{Frame, Ledger}
-use Rattle.script_machine.specs.Laws.{Tellable}
-use Rattle.script.specs.Line.{reply-text}
-use Rattle.script_text.proofs.Printing.{wrote-then, wrote-within}
+use Rattle.script_machine.specs.Printable.{Tellable}
+use Rattle.script.specs.Printed.{reply-text}
+use Rattle.script_text.proofs.Laws.Printing.{wrote-then, wrote-within}
 use borrow.Author.Needs.{needs}
 use native.Mathlib.Omega.{arith}
 use Rattle.script.proofs.print.put_reply.Statement.{statement}

@@ -1,6 +1,6 @@
 -- Written by tools/prove from the file answers beside it: edit that, and not this.
 -- Each has its text.
-use Rattle.script.specs.Line.{text-of-reason}
+use Rattle.script.specs.Printed.{text-of-reason}
 use borrow.Author.Needs.{needs}
 use native.Mathlib.Omega.{arith}
 use Rattle.script.proofs.print.reason_text.Statement.{statement}

@@ -1,7 +1,7 @@
 -- Written by tools/prove from the file answers beside it: edit that, and not this.
 -- By the form.
 use mathlib.Core.Path.{_∙_, sym}
-use Rattle.script_language.proofs.Names.{access-named, level-named}
+use Rattle.script_language.proofs.Laws.Names.{access-named, level-named}
 use borrow.Author.Needs.{needs}
 use Rattle.script_language.proofs.arguments.read_argument.Statement.{statement}
 use Rattle.script_language.proofs.arguments.read_argument.Tie as tie

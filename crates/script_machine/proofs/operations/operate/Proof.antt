@@ -1,8 +1,8 @@
 -- Written by tools/prove from the file answers beside it: edit that, and not this.
 -- The machine's parts are lent, and come back to their places.
 use mathlib.Core.Path.{refl}
-use Rattle.script_machine.specs.Laws.{ram-part, ledger-within, ledger-part}
-use Rattle.script_machine.proofs.Laws.{operated}
+use Rattle.script_machine.proofs.Laws.Parts.{ram-part, ledger-within, ledger-part}
+use Rattle.script_machine.proofs.Laws.Effects.{operated}
 use borrow.Author.Needs.{needs}
 use Rattle.script_machine.proofs.operations.operate.Statement.{statement}
 use Rattle.script_machine.proofs.operations.operate.Tie as tie

@@ -1,9 +1,9 @@
 -- Written by tools/prove from the file answers beside it: edit that, and not this.
 -- The slices have the machine's parts, and the ledger's base is the machine's.
 use mathlib.Core.Path.{_∙_}
-use Rattle.script_machine.specs.Laws.{ram-part, ledger-part}
-use Rattle.script_machine.proofs.Laws.{told-so}
-use Rattle.script_machine.proofs.Based.{translated-so}
+use Rattle.script_machine.proofs.Laws.Parts.{ram-part, ledger-part}
+use Rattle.script_machine.proofs.Laws.Effects.{told-so}
+use Rattle.script_machine.proofs.Laws.Based.{translated-so}
 use borrow.Author.Needs.{needs}
 use Rattle.script_machine.proofs.questions.translate.Statement.{statement}
 use Rattle.script_machine.proofs.questions.translate.Tie as tie

@@ -2,8 +2,8 @@
 -- The slices have the machine's parts.
 use mathlib.Core.Path.{ap}
 use Rattle.script_machine.specs.declared.Reply.the-variants.{Guest}
-use Rattle.script_machine.specs.Laws.{ram-part, ledger-part}
-use Rattle.script_machine.proofs.Laws.{told-so}
+use Rattle.script_machine.proofs.Laws.Parts.{ram-part, ledger-part}
+use Rattle.script_machine.proofs.Laws.Effects.{told-so}
 use borrow.Author.Needs.{needs}
 use Rattle.script_machine.proofs.questions.what_guest.Statement.{statement}
 use Rattle.script_machine.proofs.questions.what_guest.Tie as tie

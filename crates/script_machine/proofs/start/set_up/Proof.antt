@@ -4,7 +4,7 @@ use Prim.Native.Nat.{_+_, _*_, _/_}
 use mathlib.Core.Path.{_∙_, refl, sym}
 use lib.ListN.{length}
 use lib.Seq.{length-take-le}
-use Rattle.script_machine.proofs.Laws.{allowed, begun}
+use Rattle.script_machine.proofs.Laws.Effects.{allowed, begun}
 use borrow.Author.Needs.{needs}
 use native.Mathlib.Omega.{arith}
 use Rattle.script_machine.proofs.start.set_up.Statement.{statement}

@@ -2,7 +2,7 @@
 -- The kind, the stage and the level.
 use mathlib.Core.Path.{_∙_}
 use Rattle.script_print.specs.Answer.{fault-text}
-use Rattle.script_text.proofs.Printing.{wrote-then, wrote-within}
+use Rattle.script_text.proofs.Laws.Printing.{wrote-then, wrote-within}
 use borrow.Author.Needs.{needs}
 use native.Mathlib.Omega.{arith}
 use Rattle.script_print.proofs.answers.put_fault.Statement.{statement}

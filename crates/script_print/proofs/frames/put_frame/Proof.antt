@@ -2,7 +2,7 @@
 -- By what the frame is.
 use mathlib.Core.Path.{_∙_, sym}
 use Rattle.script_print.specs.Frame.{told-text, frame-text}
-use Rattle.script_text.proofs.Printing.{wrote-within}
+use Rattle.script_text.proofs.Laws.Printing.{wrote-within}
 use borrow.Author.Needs.{needs}
 use native.Mathlib.Omega.{arith}
 use Rattle.script_print.proofs.frames.put_frame.Statement.{statement}

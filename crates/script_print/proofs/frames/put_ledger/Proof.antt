@@ -6,7 +6,7 @@ use lib.ListN.{length}
 use Rattle.script_text.specs.Wrote.{Wrote}
 use Rattle.ledger.specs.Layout.{state-of, state-in}
 use Rattle.script_print.specs.Frame.{lines-to}
-use Rattle.script_print.proofs.Listing.{lines-none, lines-more, lines-all}
+use Rattle.script_print.proofs.Laws.Listing.{lines-none, lines-more, lines-all}
 use native.Mathlib.Omega.{arith}
 use Rattle.script_print.proofs.frames.put_ledger.Statement.{statement}
 use Rattle.script_print.proofs.frames.put_ledger.Tie as tie

@@ -2,7 +2,7 @@
 -- Part after part, and the line's end.
 use mathlib.Core.Path.{refl}
 use Rattle.script_print.specs.Frame.{line-text}
-use Rattle.script_text.proofs.Printing.{wrote-then, wrote-within}
+use Rattle.script_text.proofs.Laws.Printing.{wrote-then, wrote-within}
 use borrow.Author.Needs.{needs}
 use native.Mathlib.Omega.{arith}
 use Rattle.script_print.proofs.frames.put_line.Statement.{statement}

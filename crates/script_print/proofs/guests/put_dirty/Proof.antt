@@ -1,8 +1,8 @@
 -- Written by tools/prove from the file answers beside it: edit that, and not this.
 -- The word, or nothing.
 use Rattle.script_print.specs.Guest.{dirty-text}
-use Rattle.script_print.proofs.Listing.{wrote-nothing}
-use Rattle.script_text.proofs.Printing.{wrote-within}
+use Rattle.script_print.proofs.Laws.Listing.{wrote-nothing}
+use Rattle.script_text.proofs.Laws.Printing.{wrote-within}
 use borrow.Author.Needs.{needs}
 use native.Mathlib.Omega.{arith}
 use Rattle.script_print.proofs.guests.put_dirty.Statement.{statement}

@@ -1,0 +1,4 @@
+-- Laws, for proofs.
+pub mod Names
+pub mod Parsing
+pub mod Forms
