@@ -1,4 +1,4 @@
--- SCRIPT's table: what is printed.
+-- docs/SCRIPT.md: what is printed.
 use Prim.Native.Nat.{ℕ}
 use mathlib.Core.List.{List, _++_}
 use Rattle.script_language.specs.declared.Reason.{Reason}

@@ -1,4 +1,4 @@
--- Laws, for proofs.
+-- Laws of the definitions, for the proofs of the code.
 pub mod Names
-pub mod Parsing
 pub mod Forms
+pub mod Parsing

@@ -31,6 +31,7 @@ number-argument NoNumber = Wrong NumberExpected
 unfoldable pub named-argument : List ℕ → List (List ℕ) → Reason → Argument
 named-argument w names why = cond (ltb (word-index w names) (length names)) (Given (word-index w names)) (Wrong why)
 
+-- the argument that a word is
 unfoldable pub read-argument : Form → List ℕ → Argument
 read-argument Number w = number-argument (number-of w)
 read-argument Access w = named-argument w (ascii "r" ∷ ascii "w" ∷ ascii "x" ∷ []) AccessExpected
@@ -41,11 +42,13 @@ pub data Values : Type 0 where
   values : List ℕ → Values
   failed : Reason → Values
 
+-- the first argument, and then the rest
 abbrev pub joined : Argument → Values → Values
 joined (Wrong r) rest = failed r
 joined (Given x) (failed r) = failed r
 joined (Given x) (values l) = values (x ∷ l)
 
+-- the words of s as arguments of these forms, one after the other
 unfoldable pub values-of : List Form → List ℕ → Values
 values-of [] s = cond (eqb (length (after-blanks s)) 0) (values []) (failed TooManyWords)
 values-of (f ∷ fs) s =
@@ -55,18 +58,26 @@ values-of (f ∷ fs) s =
 abbrev pub values-for : CommandName → List ℕ → Values
 values-for v s = values-of (forms-of (command-numbers v) (access-and-level v)) s
 
+-- the command of these values
 abbrev pub read-from : CommandName → Values → Line
 read-from v (values l) = Asks (command-with v (argument-at l))
 read-from v (failed r) = Unreadable r
 
+-- the command of a first word, with the words after it
 unfoldable pub read-command : FirstWord → List ℕ → Line
 read-command (Known v) s = read-from v (values-for v s)
 read-command Unknown s = Unreadable UnknownCommand
 
+-- the words of a line, which start with the first one
 unfoldable pub read-words : List ℕ → Line
 read-words s = cond (eqb (length s) 0) Empty (read-command (first-word (leading-word s)) (after-word s))
 
+-- "a line of 4,096 bytes or more"
+abbrev line-limit : ℕ
+line-limit = 4096
+
+-- what the line is, given without its line end
 unfoldable pub read-line : List ℕ → Line
 read-line line =
-    cond (leb 4096 (length line)) (Unreadable LineTooLong) (
+    cond (leb line-limit (length line)) (Unreadable LineTooLong) (
     cond (is-text (text-of line)) (read-words (after-blanks (text-of line))) (Unreadable NotText))

@@ -1,4 +1,4 @@
--- SCRIPT's table: each command's word, its arguments, and the command that they make.
+-- The table of the script language (docs/SCRIPT.md): each command's word, its arguments, and the command that they make.
 use Prim.Native.Nat.{ℕ, zero, suc}
 use Prim.Native.String.{String}
 use mathlib.Core.Bool.{cond}
@@ -28,6 +28,7 @@ pub record Entry : Type 0 where
 abbrev pub entry : String → CommandName → Entry
 entry w v = record { word = ascii w; name = v }
 
+-- the operations of the monitor
 abbrev pub operation-table : List Entry
 operation-table =
     entry "create" (Operating Creating) ∷
@@ -41,6 +42,7 @@ operation-table =
     entry "invalidated" (Operating Invalidating) ∷
     []
 
+-- the other commands
 abbrev pub command-table : List Entry
 command-table =
     entry "setup" Setup ∷
@@ -59,22 +61,26 @@ unfoldable pub lookup : List ℕ → List Entry → FirstWord → FirstWord
 lookup w [] other = other
 lookup w (e ∷ t) other = cond (same-text w (e .word)) (Known (e .name)) (lookup w t other)
 
+-- the operation that w names
 unfoldable pub operation-word : List ℕ → FirstWord
 operation-word w = lookup w operation-table Unknown
 
+-- the command that w names
 unfoldable pub first-word : List ℕ → FirstWord
 first-word w = lookup w command-table (operation-word w)
 
--- the same as the code finds it, by the word's place in a text
+-- the same as the code finds it: the first n words of a text, and the place of w among them
+-- the command that w names
 unfoldable pub first-words : ℕ → List ℕ → List (List ℕ)
 first-words zero s = []
 first-words (suc n) s = leading-word (after-blanks s) ∷ first-words n (after-word (after-blanks s))
 
+-- the place of w in a list of words; where it is none of them, their number
 unfoldable pub word-index : List ℕ → List (List ℕ) → ℕ
 word-index w [] = 0
 word-index w (x ∷ l) = cond (same-text w x) 0 (suc (word-index w l))
 
--- what follows: so many numbers
+-- what follows the word: so many numbers
 unfoldable pub operation-numbers : OperationName → ℕ
 operation-numbers Creating = 1
 operation-numbers Giving = 2
@@ -111,8 +117,13 @@ access-and-level OneGuest = 0
 access-and-level WholeLedger = 0
 access-and-level (Operating d) = 0
 
+-- n numbers, and then k of the access and the level
 unfoldable pub forms-of : ℕ → ℕ → List Form
 forms-of n k = replicate n Number ++ take k (Access ∷ Level ∷ [])
+
+-- `walk` has five, and no command has more
+abbrev pub most-arguments : ℕ
+most-arguments = 5
 
 -- the argument at each place
 abbrev pub argument-at : List ℕ → ℕ → ℕ
@@ -130,6 +141,8 @@ operation-with Taking a = Take (a 0) (a 1)
 operation-with Destroying a = Destroy (a 0)
 operation-with Invalidating a = Invalidated (a 0)
 
+-- `setup N B K`, `word A V`, `peek A`, `stage2 ROOT IPA ACCESS`, `walk ROOT1 ROOT2 VA ACCESS EL`,
+-- `translate G IPA ACCESS`, `frame F`, `guest G`, `ledger`
 unfoldable pub command-with : CommandName → (ℕ → ℕ) → Command
 command-with Setup a = SetUp (a 0) (a 1) (a 2)
 command-with Word a = StoreWord (a 0) (a 1)

@@ -5,12 +5,13 @@ ghost use lib.ListN.{length, getD};
 ghost use Rattle.script_language.specs.Names.{first-words, forms-of};
 ghost use Rattle.script_language.specs.Commands.{named-argument, read-argument, values-for, read-from};
 use crate::Line;
+use crate::MOST_ARGUMENTS;
 use crate::Reason;
-use crate::verbs::CommandName;
-use crate::verbs::access_and_level;
-use crate::verbs::command_numbers;
-use crate::verbs::command_with;
-use crate::verbs::word_index;
+use crate::names::CommandName;
+use crate::names::access_and_level;
+use crate::names::command_numbers;
+use crate::names::command_with;
+use crate::names::word_index;
 use script_text::numbers::Numeral;
 use script_text::numbers::number;
 use script_text::words::word_end;
@@ -73,13 +74,13 @@ fn read_argument(f: Form, s: &[u8]) -> Argument
     }
 }
 
-// The words after the first, read as v wants them.
+// The words after the first, read as the command wants them.
 pub fn read_arguments(v: CommandName, s: &[u8]) -> Line
     ensures { λ r. ⌜ r ≡ read-from v (values-for v (now (s .entry))) ⌝ }
 {
     let numbers = command_numbers(v);
     let n = numbers + access_and_level(v);
-    let mut a = [0u64; 5];
+    let mut a = [0u64; MOST_ARGUMENTS];
     let mut at = 0;
     let mut i = 0;
     while i < n {

@@ -4,16 +4,22 @@ ghost use mathlib.Core.Path.{_≡_};
 ghost use Rattle.script_language.specs.Commands.{read-command, read-words, read-line};
 ghost use Rattle.script_text.specs.Words.{after-blanks};
 
-mod read_arguments;
-mod verbs;
+mod arguments;
+mod names;
 
-use read_arguments::read_arguments;
+use arguments::read_arguments;
+use names::FirstWord;
+use names::first_word;
 use script_text::words::is_text;
 use script_text::words::text_end;
 use script_text::words::word_end;
 use script_text::words::word_start;
-use verbs::FirstWord;
-use verbs::first_word;
+
+// A line of so many bytes, its line end not counted, is too long.
+const LINE_LIMIT: usize = 4096;
+
+// `walk` has five, and no command has more.
+const MOST_ARGUMENTS: usize = 5;
 
 // An operation of the monitor (document 03, section 3), as a script names it.
 pub enum Operation {
@@ -35,15 +41,15 @@ pub enum Operation {
         guest: u64,
     },
     Share {
-        guest: u64,
+        owner: u64,
         frame: u64,
-        other: u64,
+        with: u64,
         writing: u64,
     },
     Unshare {
-        guest: u64,
+        owner: u64,
         frame: u64,
-        other: u64,
+        with: u64,
     },
     Take {
         frame: u64,
@@ -57,10 +63,10 @@ pub enum Operation {
     },
 }
 
-// What a command asks, and changes nothing.
+// What a command asks that changes nothing.
 pub enum Question {
     PeekWord {
-        at: u64,
+        address: u64,
     },
     WalkStage2 {
         root: u64,
@@ -88,6 +94,7 @@ pub enum Question {
     Ledger,
 }
 
+// What a line asks for.
 pub enum Command {
     SetUp {
         frames: u64,
@@ -95,7 +102,7 @@ pub enum Command {
         monitor: u64,
     },
     StoreWord {
-        at: u64,
+        address: u64,
         value: u64,
     },
     Operate(Operation),
@@ -115,13 +122,14 @@ pub enum Reason {
     LineTooLong,
 }
 
-// What a line is.
+// What a line is: blanks and a comment, a command, or none.
 pub enum Line {
     Empty,
     Asks(Command),
     Unreadable(Reason),
 }
 
+// The command of a first word, with the words after it.
 fn read_command(w: FirstWord, s: &[u8]) -> Line
     ensures { λ r. ⌜ r ≡ read-command w (now (s .entry)) ⌝ }
 {
@@ -131,6 +139,7 @@ fn read_command(w: FirstWord, s: &[u8]) -> Line
     }
 }
 
+// The words of a line's text.
 fn read_words(s: &[u8]) -> Line
     ensures { λ r. ⌜ r ≡ read-words (after-blanks (now (s .entry))) ⌝ }
 {
@@ -146,7 +155,7 @@ fn read_words(s: &[u8]) -> Line
 pub fn read_line(line: &[u8]) -> Line
     ensures { λ r. ⌜ r ≡ read-line (now (line .entry)) ⌝ }
 {
-    if 4096 <= line.len() {
+    if LINE_LIMIT <= line.len() {
         return Line::Unreadable(Reason::LineTooLong);
     }
     let end = text_end(line);

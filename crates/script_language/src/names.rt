@@ -2,13 +2,14 @@
 ghost use mathlib.Core.Path.{_≡_};
 ghost use Rattle.script_language.specs.Names.{first-words, word-index, operation-word, first-word, operation-numbers, command-numbers, access-and-level, argument-at, operation-with, command-with};
 use crate::Command;
+use crate::MOST_ARGUMENTS;
 use crate::Operation;
 use crate::Question;
 use script_text::words::same_text;
 use script_text::words::word_end;
 use script_text::words::word_start;
 
-// What a first word asks for.
+// A command by its first word.
 pub enum CommandName {
     Setup,
     Word,
@@ -35,6 +36,7 @@ pub enum OperationName {
     Invalidating,
 }
 
+// What a line's first word is.
 pub enum FirstWord {
     Known(CommandName),
     Unknown,
@@ -57,6 +59,7 @@ pub fn word_index(w: &[u8], names: &[u8], n: usize) -> usize
     n
 }
 
+// A first word that names an operation.
 fn operation_word(w: &[u8]) -> FirstWord
     ensures { λ r. ⌜ r ≡ operation-word (now (w .entry)) ⌝ }
 {
@@ -79,6 +82,7 @@ fn operation_word(w: &[u8]) -> FirstWord
     }
 }
 
+// A first word, which names a command or an operation.
 pub fn first_word(w: &[u8]) -> FirstWord
     ensures { λ r. ⌜ r ≡ first-word (now (w .entry)) ⌝ }
 {
@@ -101,7 +105,7 @@ pub fn first_word(w: &[u8]) -> FirstWord
     }
 }
 
-// How many numbers follow.
+// How many numbers follow an operation's word.
 fn operation_numbers(d: OperationName) -> usize
     ensures { λ r. ⌜ r ≡ operation-numbers d ⌝ }
 {
@@ -118,6 +122,7 @@ fn operation_numbers(d: OperationName) -> usize
     }
 }
 
+// How many numbers follow a command's word.
 pub fn command_numbers(v: CommandName) -> usize
     ensures { λ r. ⌜ r ≡ command-numbers v ⌝ }
 {
@@ -153,7 +158,8 @@ pub fn access_and_level(v: CommandName) -> usize
     }
 }
 
-fn operation_with(d: OperationName, a: [u64; 5]) -> Operation
+// An operation with its arguments, in the script's order.
+fn operation_with(d: OperationName, a: [u64; MOST_ARGUMENTS]) -> Operation
     ensures { λ r. ⌜ r ≡ operation-with d (argument-at a) ⌝ }
 {
     let x = a[0];
@@ -174,15 +180,15 @@ fn operation_with(d: OperationName, a: [u64; 5]) -> Operation
             guest: y,
         },
         OperationName::Sharing => Operation::Share {
-            guest: x,
+            owner: x,
             frame: y,
-            other: z,
+            with: z,
             writing: w,
         },
         OperationName::Unsharing => Operation::Unshare {
-            guest: x,
+            owner: x,
             frame: y,
-            other: z,
+            with: z,
         },
         OperationName::Taking => Operation::Take { frame: x, guest: y },
         OperationName::Destroying => Operation::Destroy { guest: x },
@@ -190,7 +196,8 @@ fn operation_with(d: OperationName, a: [u64; 5]) -> Operation
     }
 }
 
-pub fn command_with(v: CommandName, a: [u64; 5]) -> Command
+// A command with its arguments, in the script's order.
+pub fn command_with(v: CommandName, a: [u64; MOST_ARGUMENTS]) -> Command
     ensures { λ r. ⌜ r ≡ command-with v (argument-at a) ⌝ }
 {
     let x = a[0];
@@ -202,8 +209,11 @@ pub fn command_with(v: CommandName, a: [u64; 5]) -> Command
             base: y,
             monitor: z,
         },
-        CommandName::Word => Command::StoreWord { at: x, value: y },
-        CommandName::Peek => Command::Ask(Question::PeekWord { at: x }),
+        CommandName::Word => Command::StoreWord {
+            address: x,
+            value: y,
+        },
+        CommandName::Peek => Command::Ask(Question::PeekWord { address: x }),
         CommandName::Stage2 => Command::Ask(Question::WalkStage2 {
             root: x,
             ipa: y,

@@ -1,2 +1,2 @@
--- Laws, for proofs.
+-- Laws of the definitions, for the proofs of the code.
 pub mod Listing

@@ -1,4 +1,4 @@
--- SCRIPT: "A number is decimal, or hexadecimal after `0x`, below 2^64."
+-- docs/SCRIPT.md: "A number is decimal, or hexadecimal after `0x`, below 2^64."
 -- The digits a to f may be capitals. What has no digit, or another character among its digits, is no number.
 use Prim.Native.Nat.{ℕ, zero, suc, _+_, _-_, _*_, _^_}
 use Prim.Native.Char.{code}

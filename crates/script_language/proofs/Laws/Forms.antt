@@ -11,7 +11,7 @@ use Rattle.script_language.specs.declared.names.OperationName.{Operation
 use Rattle.script_language.specs.declared.names.OperationName.the-variants.{Creating, Giving, Mapping, Unmapping, Sharing, Unsharing, Taking, Destroying, Invalidating}
 use Rattle.script_language.specs.declared.arguments.Form.{Form}
 use Rattle.script_language.specs.declared.arguments.Form.the-variants.{Number, Access, Level}
-use Rattle.script_language.specs.Names.{forms-of, operation-numbers, command-numbers, access-and-level}
+use Rattle.script_language.specs.Names.{forms-of, most-arguments, operation-numbers, command-numbers, access-and-level}
 
 abbrev others : ℕ → List Form
 others k = take k (Access ∷ Level ∷ [])
@@ -53,17 +53,17 @@ level-at n k i h m =
     let l : suc (i - n - 1) < length (others k) = omega (arith, forms-length n k) in
     sym (ap (λ (x : ℕ). getD (forms-of n k) x Number) z ∙ other-at n k (suc (i - n - 1)) ∙ sym (level-second k (i - n - 1) l))
 
--- n and k count v's forms, of which there are five at most
+-- n and k count v's forms, of which there are most-arguments at most
 pub record Fits (v : CommandName) (n k : ℕ) : Type 0 where
   pub forms : forms-of n k ≡ forms-of (command-numbers v) (access-and-level v)
   pub counted : n + k ≡ length (forms-of (command-numbers v) (access-and-level v))
-  pub few : n + k ≤ 5
+  pub few : n + k ≤ most-arguments
 
 record Fitting (n k : ℕ) : Type 0 where
   counted : n + k ≡ length (forms-of n k)
-  few : n + k ≤ 5
+  few : n + k ≤ most-arguments
 
-fitting : (n k : ℕ) → length (others k) ≡ k → n + k ≤ 5 → Fitting n k
+fitting : (n k : ℕ) → length (others k) ≡ k → n + k ≤ most-arguments → Fitting n k
 fitting n k e h = record { counted = sym (forms-length n k ∙ ap (λ (x : ℕ). n + x) e); few = h }
 
 operation-fitting : (d : OperationName) → Fitting (operation-numbers d) 0

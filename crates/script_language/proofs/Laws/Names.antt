@@ -29,8 +29,10 @@ passed-none w s n =
     let z : n - 0 ≡ n = omega arith in
     record { inside = omega arith; within = omega arith; so-far = rw z (omega arith) }
 
-module _ {w s : List ℕ} {n at k from to : ℕ} (p : Passed w s n at k) (h : k < n) (u : drop from s ≡ after-blanks (drop at s)) (e : Word-ends s from to) where
-  place-at : word-index w (first-words (n - k) (drop at s)) ≡ cond (same-text w (take (to - from) (drop from s))) 0 (suc (word-index w (first-words (n - suc k) (drop to s))))
+module _ {w s : List ℕ} {n at k from to : ℕ} (p : Passed w s n at k) (h : k < n) (u : drop from s ≡ after-blanks (drop at s))
+    (e : Word-ends s from to) where
+  place-at : word-index w (first-words (n - k) (drop at s))
+      ≡ cond (same-text w (take (to - from) (drop from s))) 0 (suc (word-index w (first-words (n - suc k) (drop to s))))
   unfolding first-words word-index
   place-at =
       let z : n - k ≡ suc (n - suc k) = omega arith in
@@ -61,11 +63,13 @@ unfolding first-words
 first-words-length zero s = refl
 first-words-length (suc n) s = ap suc (first-words-length n (after-word (after-blanks s)))
 
-pub named-there : (w s : List ℕ) (n : ℕ) (why : Reason) {k : ℕ} → k ≡ word-index w (first-words n s) → k < n → Given k ≡ named-argument w (first-words n s) why
+pub named-there : (w s : List ℕ) (n : ℕ) (why : Reason) {k : ℕ} → k ≡ word-index w (first-words n s) → k < n
+    → Given k ≡ named-argument w (first-words n s) why
 unfolding named-argument
 named-there w s n why e h = simp (first-words-length n s, sym e, lt-ltb _ _ h)
 
-pub named-none : (w s : List ℕ) (n : ℕ) (why : Reason) {k : ℕ} → k ≡ word-index w (first-words n s) → n ≤ k → Wrong why ≡ named-argument w (first-words n s) why
+pub named-none : (w s : List ℕ) (n : ℕ) (why : Reason) {k : ℕ} → k ≡ word-index w (first-words n s) → n ≤ k
+    → Wrong why ≡ named-argument w (first-words n s) why
 unfolding named-argument
 named-none w s n why e h = simp (first-words-length n s, sym e, le-ltb _ _ h)
 

@@ -19,7 +19,7 @@ use Rattle.script_language.specs.declared.Reason.the-variants.{TooFewWor
 use Rattle.script_language.specs.declared.Line.{Line}
 use Rattle.script_language.specs.declared.Line.the-variants.{Empty, Asks, Unreadable}
 use Rattle.script_text.specs.Words.{after-blanks, Word-ends}
-use Rattle.script_language.specs.Names.{argument-at, command-with, first-word}
+use Rattle.script_language.specs.Names.{most-arguments, argument-at, command-with, first-word}
 use Rattle.script_language.specs.Commands.{read-argument, Values, values, failed, joined, values-of, read-from, read-command, read-words}
 
 -- the values p, and then those of the rest
@@ -40,7 +40,7 @@ before-one p x (failed r) = refl
 -- i arguments of the words s are read, up to the place `at`: they are the first i of a, whose rest is 0
 pub record Reading (fs : List Form) (s a : List ℕ) (at i : ℕ) : Type 0 where
   pub inside : at ≤ length s
-  pub room : length a ≡ 5
+  pub room : length a ≡ most-arguments
   pub unset : (k : ℕ) → i ≤ k → argument-at a k ≡ 0
   pub so-far : values-of fs s ≡ before (take i a) (values-of (drop i fs) (drop at s))
 
@@ -49,8 +49,8 @@ zeros zero k = refl
 zeros (suc n) zero = refl
 zeros (suc n) (suc k) = zeros n k
 
-pub reading-none : (fs : List Form) (s : List ℕ) → Reading fs s (replicate 5 0) 0 0
-reading-none fs s = record { inside = omega arith; room = refl; unset = λ k h. zeros 5 k; so-far = before-none _ }
+pub reading-none : (fs : List Form) (s : List ℕ) → Reading fs s (replicate most-arguments 0) 0 0
+reading-none fs s = record { inside = omega arith; room = refl; unset = λ k h. zeros most-arguments k; so-far = before-none _ }
 
 -- where no word is left
 empty : (s : List ℕ) (at from : ℕ) → from ≡ length s → drop from s ≡ after-blanks (drop at s) → length (after-blanks (drop at s)) ≡ 0
@@ -68,7 +68,8 @@ too-few v {fs} {s} {a} {at} {i} {from} p h e u = rw (p .so-far, few-at fs i s at
 
 -- the next word, and its argument
 values-at : (fs : List Form) (i : ℕ) (s : List ℕ) (at from to : ℕ) (x : Argument) → i < length fs → from ≤ length s
-    → (from ≡ length s → ⊥) → drop from s ≡ after-blanks (drop at s) → Word-ends s from to
+    → (from ≡ length s → ⊥)
+    → drop from s ≡ after-blanks (drop at s) → Word-ends s from to
     → x ≡ read-argument (getD fs i Number) (take (to - from) (drop from s))
     → values-of (drop i fs) (drop at s) ≡ joined x (values-of (drop (i + 1) fs) (drop to s))
 unfolding values-of
@@ -76,16 +77,19 @@ values-at fs i s at from to x h le some u w e =
     let n : length (drop from s) ≡ 0 → ⊥ = λ z. some (omega (arith, length-drop from s)) in
     rw (add-one i, drop-cons fs i Number h, ← u, ne-eqb _ _ n, e, w .word, w .after)
 
-pub wrong-word : (v : CommandName) {fs : List Form} {s a : List ℕ} {at i from to : ℕ} {x : Argument} {r : Reason} → Reading fs s a at i → i < length fs
-    → from ≤ length s → (from ≡ length s → ⊥) → drop from s ≡ after-blanks (drop at s) → Word-ends s from to
+pub wrong-word : (v : CommandName) {fs : List Form} {s a : List ℕ} {at i from to : ℕ} {x : Argument} {r : Reason}
+    → Reading fs s a at i → i < length fs → from ≤ length s → (from ≡ length s → ⊥)
+    → drop from s ≡ after-blanks (drop at s) → Word-ends s from to
     → x ≡ read-argument (getD fs i Number) (take (to - from) (drop from s)) → x ≡ Wrong r
     → Unreadable r ≡ read-from v (values-of fs s)
 unfolding before
 wrong-word v {fs} {s} {a} {at} {i} {from} {to} {x} {r} p h le some u w e k =
     rw (p .so-far, values-at fs i s at from to x h le some u w e, k)
 
-pub reading-more : {fs : List Form} {s a : List ℕ} {at i from to : ℕ} {x : Argument} {n : ℕ} → Reading fs s a at i → i < length fs → i < 5
-    → from ≤ length s → (from ≡ length s → ⊥) → drop from s ≡ after-blanks (drop at s) → Word-ends s from to
+pub reading-more : {fs : List Form} {s a : List ℕ} {at i from to : ℕ} {x : Argument} {n : ℕ}
+    → Reading fs s a at i → i < length fs → i < most-arguments
+    → from ≤ length s → (from ≡ length s → ⊥)
+    → drop from s ≡ after-blanks (drop at s) → Word-ends s from to
     → x ≡ read-argument (getD fs i Number) (take (to - from) (drop from s)) → x ≡ Given n
     → Reading fs s (set a i n) to (i + 1)
 reading-more {fs} {s} {a} {at} {i} {from} {to} {x} {n} p h five le some u w e k =

@@ -4,8 +4,8 @@ use mathlib.Core.Path.{_∙_}
 use Rattle.script_text.proofs.Laws.Scanning.{rest}
 use Rattle.script_language.proofs.Laws.Parsing.{no-word, first-there}
 use borrow.Author.Needs.{needs}
-use Rattle.script_language.proofs.read_text.Statement.{statement}
-use Rattle.script_language.proofs.read_text.Tie as tie
+use Rattle.script_language.proofs.read_words.Statement.{statement}
+use Rattle.script_language.proofs.read_words.Tie as tie
 
 word-start-requires : tie.Need-word-start-requires
 word-start-requires c κs = search needs
@@ -28,25 +28,25 @@ part-first-word-end c = search needs
 first-word-requires : tie.Need-first-word-requires
 first-word-requires c κs = search needs
 
-sub-after-first : tie.Need-sub-after-first
-sub-after-first c = search needs
+sub-read-command : tie.Need-sub-read-command
+sub-read-command c = search needs
 
-part-after-first-start : tie.Need-part-after-first-start
-part-after-first-start c = search needs
+part-read-command-start : tie.Need-part-read-command-start
+part-read-command-start c = search needs
 
-part-after-first-end : tie.Need-part-after-first-end
-part-after-first-end c = search needs
+part-read-command-end : tie.Need-part-read-command-end
+part-read-command-end c = search needs
 
-after-first-requires : tie.Need-after-first-requires
-after-first-requires c κs = search needs
+read-command-requires : tie.Need-read-command-requires
+read-command-requires c κs = search needs
 
 returns-2 : tie.Need-returns-2
-returns-2 c = c .after-first .ensures
+returns-2 c = c .read-command .ensures
     ∙ rw (c .before .before .first-word .ensures, rest (c .before .before .before .before .word-end .result) (c .before .before .before .before .before .before .before .before .args .s .now))
     (first-there (c .before .before .before .before .before .before .before .before .args .s .now) (c .before .before .before .before .before .before .word-start .ensures .0) (c .before .before .before .before .before .if1 .left) (c .before .before .before .before .before .before .word-start .ensures .1) (c .before .before .before .before .word-end .ensures))
 
-pub read-text-spec : {M : Type 1} → statement M
-read-text-spec =
+pub read-words-spec : {M : Type 1} → statement M
+read-words-spec =
     tie.close
     (tie.spec
     word-start-requires
@@ -56,8 +56,8 @@ read-text-spec =
     part-first-word-start
     part-first-word-end
     first-word-requires
-    sub-after-first
-    part-after-first-start
-    part-after-first-end
-    after-first-requires
+    sub-read-command
+    part-read-command-start
+    part-read-command-end
+    read-command-requires
     returns-2)

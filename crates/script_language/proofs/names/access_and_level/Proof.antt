@@ -1,9 +1,9 @@
 -- Written by tools/prove from the file answers beside it: edit that, and not this.
 -- By the command.
-use Rattle.script_language.specs.Names.{others-for}
+use Rattle.script_language.specs.Names.{access-and-level}
 use borrow.Author.Needs.{needs}
-use Rattle.script_language.proofs.verbs.others_of.Statement.{statement}
-use Rattle.script_language.proofs.verbs.others_of.Tie as tie
+use Rattle.script_language.proofs.names.access_and_level.Statement.{statement}
+use Rattle.script_language.proofs.names.access_and_level.Tie as tie
 
 enum-told : tie.Need-enum-told
 enum-told c = search needs
@@ -36,47 +36,47 @@ enum-told-10 : tie.Need-enum-told-10
 enum-told-10 c = search needs
 
 returns : tie.Need-returns
-unfolding others-for
+unfolding access-and-level
 returns c = simp (c .enum-told .given .1)
 
 returns-2 : tie.Need-returns-2
-unfolding others-for
+unfolding access-and-level
 returns-2 c = simp (c .enum-told2 .given .1)
 
 returns-3 : tie.Need-returns-3
-unfolding others-for
+unfolding access-and-level
 returns-3 c = simp (c .enum-told3 .given .1)
 
 returns-4 : tie.Need-returns-4
-unfolding others-for
+unfolding access-and-level
 returns-4 c = simp (c .enum-told4 .given .1)
 
 returns-5 : tie.Need-returns-5
-unfolding others-for
+unfolding access-and-level
 returns-5 c = simp (c .enum-told5 .given .1)
 
 returns-6 : tie.Need-returns-6
-unfolding others-for
+unfolding access-and-level
 returns-6 c = simp (c .enum-told6 .given .1)
 
 returns-7 : tie.Need-returns-7
-unfolding others-for
+unfolding access-and-level
 returns-7 c = simp (c .enum-told7 .given .1)
 
 returns-8 : tie.Need-returns-8
-unfolding others-for
+unfolding access-and-level
 returns-8 c = simp (c .enum-told8 .given .1)
 
 returns-9 : tie.Need-returns-9
-unfolding others-for
+unfolding access-and-level
 returns-9 c = simp (c .enum-told9 .given .1)
 
 returns-10 : tie.Need-returns-10
-unfolding others-for
+unfolding access-and-level
 returns-10 c = simp (c .enum-told10 .given .1)
 
-pub others-of-spec : {M : Type 1} → statement M
-others-of-spec =
+pub access-and-level-spec : {M : Type 1} → statement M
+access-and-level-spec =
     tie.close
     (tie.spec
     enum-told

@@ -1,10 +1,10 @@
 -- Written by tools/prove from the file answers beside it: edit that, and not this.
 -- By the command.
-use Rattle.script_language.specs.Names.{numbers-for}
+use Rattle.script_language.specs.Names.{command-numbers}
 use borrow.Author.Needs.{needs}
 use mathlib.Core.Path.{sym}
-use Rattle.script_language.proofs.verbs.numbers_of.Statement.{statement}
-use Rattle.script_language.proofs.verbs.numbers_of.Tie as tie
+use Rattle.script_language.proofs.names.command_numbers.Statement.{statement}
+use Rattle.script_language.proofs.names.command_numbers.Tie as tie
 
 enum-told : tie.Need-enum-told
 enum-told c = search needs
@@ -36,54 +36,54 @@ enum-told-9 c = search needs
 enum-known-v : tie.Need-enum-known-v
 enum-known-v c = search needs
 
-deed-numbers-requires : tie.Need-deed-numbers-requires
-deed-numbers-requires c κs = search needs
+operation-numbers-requires : tie.Need-operation-numbers-requires
+operation-numbers-requires c κs = search needs
 
 returns : tie.Need-returns
-unfolding numbers-for
+unfolding command-numbers
 returns c = simp (c .enum-told .given .1)
 
 returns-2 : tie.Need-returns-2
-unfolding numbers-for
+unfolding command-numbers
 returns-2 c = simp (c .enum-told2 .given .1)
 
 returns-3 : tie.Need-returns-3
-unfolding numbers-for
+unfolding command-numbers
 returns-3 c = simp (c .enum-told3 .given .1)
 
 returns-4 : tie.Need-returns-4
-unfolding numbers-for
+unfolding command-numbers
 returns-4 c = simp (c .enum-told4 .given .1)
 
 returns-5 : tie.Need-returns-5
-unfolding numbers-for
+unfolding command-numbers
 returns-5 c = simp (c .enum-told5 .given .1)
 
 returns-6 : tie.Need-returns-6
-unfolding numbers-for
+unfolding command-numbers
 returns-6 c = simp (c .enum-told6 .given .1)
 
 returns-7 : tie.Need-returns-7
-unfolding numbers-for
+unfolding command-numbers
 returns-7 c = simp (c .enum-told7 .given .1)
 
 returns-8 : tie.Need-returns-8
-unfolding numbers-for
+unfolding command-numbers
 returns-8 c = simp (c .enum-told8 .given .1)
 
 returns-9 : tie.Need-returns-9
-unfolding numbers-for
+unfolding command-numbers
 returns-9 c = simp (c .enum-told9 .given .1)
 
 returns-10 : tie.Need-returns-10
-unfolding numbers-for
+unfolding command-numbers
 returns-10 c = simp (
   c .before .before .v .given .1,
-  sym (c .deed-numbers .ensures),
+  sym (c .operation-numbers .ensures),
 )
 
-pub numbers-of-spec : {M : Type 1} → statement M
-numbers-of-spec =
+pub command-numbers-spec : {M : Type 1} → statement M
+command-numbers-spec =
     tie.close
     (tie.spec
     enum-told
@@ -96,7 +96,7 @@ numbers-of-spec =
     enum-told-8
     enum-told-9
     enum-known-v
-    deed-numbers-requires
+    operation-numbers-requires
     returns
     returns-2
     returns-3

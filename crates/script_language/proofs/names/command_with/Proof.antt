@@ -3,8 +3,8 @@
 use Rattle.script_language.specs.Names.{command-with}
 use borrow.Author.Needs.{needs}
 use mathlib.Core.Path.{sym}
-use Rattle.script_language.proofs.verbs.made.Statement.{statement}
-use Rattle.script_language.proofs.verbs.made.Tie as tie
+use Rattle.script_language.proofs.names.command_with.Statement.{statement}
+use Rattle.script_language.proofs.names.command_with.Tie as tie
 
 array-read-x : tie.Need-array-read-x
 array-read-x c = search needs
@@ -51,8 +51,8 @@ enum-told-9 c = search needs
 enum-known-v : tie.Need-enum-known-v
 enum-known-v c = search needs
 
-operation-requires : tie.Need-operation-requires
-operation-requires c κs = search needs
+operation-with-requires : tie.Need-operation-with-requires
+operation-with-requires c κs = search needs
 
 returns : tie.Need-returns
 unfolding command-with
@@ -94,11 +94,11 @@ returns-10 : tie.Need-returns-10
 unfolding command-with
 returns-10 c = simp (
   c .before .before .v .given .1,
-  sym (c .operation .ensures),
+  sym (c .operation-with .ensures),
 )
 
-pub made-spec : {M : Type 1} → statement M
-made-spec =
+pub command-with-spec : {M : Type 1} → statement M
+command-with-spec =
     tie.close
     (tie.spec
     array-read-x
@@ -116,7 +116,7 @@ made-spec =
     enum-told-8
     enum-told-9
     enum-known-v
-    operation-requires
+    operation-with-requires
     returns
     returns-2
     returns-3

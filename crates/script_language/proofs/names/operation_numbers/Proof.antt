@@ -1,9 +1,9 @@
 -- Written by tools/prove from the file answers beside it: edit that, and not this.
 -- By the operation.
-use Rattle.script_language.specs.Names.{numbers-for-deed}
+use Rattle.script_language.specs.Names.{operation-numbers}
 use borrow.Author.Needs.{needs}
-use Rattle.script_language.proofs.verbs.deed_numbers.Statement.{statement}
-use Rattle.script_language.proofs.verbs.deed_numbers.Tie as tie
+use Rattle.script_language.proofs.names.operation_numbers.Statement.{statement}
+use Rattle.script_language.proofs.names.operation_numbers.Tie as tie
 
 enum-told : tie.Need-enum-told
 enum-told c = search needs
@@ -33,43 +33,43 @@ enum-told-9 : tie.Need-enum-told-9
 enum-told-9 c = search needs
 
 returns : tie.Need-returns
-unfolding numbers-for-deed
+unfolding operation-numbers
 returns c = simp (c .enum-told .given .1)
 
 returns-2 : tie.Need-returns-2
-unfolding numbers-for-deed
+unfolding operation-numbers
 returns-2 c = simp (c .enum-told2 .given .1)
 
 returns-3 : tie.Need-returns-3
-unfolding numbers-for-deed
+unfolding operation-numbers
 returns-3 c = simp (c .enum-told3 .given .1)
 
 returns-4 : tie.Need-returns-4
-unfolding numbers-for-deed
+unfolding operation-numbers
 returns-4 c = simp (c .enum-told4 .given .1)
 
 returns-5 : tie.Need-returns-5
-unfolding numbers-for-deed
+unfolding operation-numbers
 returns-5 c = simp (c .enum-told5 .given .1)
 
 returns-6 : tie.Need-returns-6
-unfolding numbers-for-deed
+unfolding operation-numbers
 returns-6 c = simp (c .enum-told6 .given .1)
 
 returns-7 : tie.Need-returns-7
-unfolding numbers-for-deed
+unfolding operation-numbers
 returns-7 c = simp (c .enum-told7 .given .1)
 
 returns-8 : tie.Need-returns-8
-unfolding numbers-for-deed
+unfolding operation-numbers
 returns-8 c = simp (c .enum-told8 .given .1)
 
 returns-9 : tie.Need-returns-9
-unfolding numbers-for-deed
+unfolding operation-numbers
 returns-9 c = simp (c .enum-told9 .given .1)
 
-pub deed-numbers-spec : {M : Type 1} → statement M
-deed-numbers-spec =
+pub operation-numbers-spec : {M : Type 1} → statement M
+operation-numbers-spec =
     tie.close
     (tie.spec
     enum-told

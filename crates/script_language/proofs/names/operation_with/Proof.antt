@@ -2,8 +2,8 @@
 -- By the operation.
 use Rattle.script_language.specs.Names.{operation-with}
 use borrow.Author.Needs.{needs}
-use Rattle.script_language.proofs.verbs.operation.Statement.{statement}
-use Rattle.script_language.proofs.verbs.operation.Tie as tie
+use Rattle.script_language.proofs.names.operation_with.Statement.{statement}
+use Rattle.script_language.proofs.names.operation_with.Tie as tie
 
 array-read-x : tie.Need-array-read-x
 array-read-x c = search needs
@@ -80,8 +80,8 @@ returns-9 : tie.Need-returns-9
 unfolding operation-with
 returns-9 c = simp (c .enum-told9 .given .1)
 
-pub operation-spec : {M : Type 1} → statement M
-operation-spec =
+pub operation-with-spec : {M : Type 1} → statement M
+operation-with-spec =
     tie.close
     (tie.spec
     array-read-x
