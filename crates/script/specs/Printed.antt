@@ -1,17 +1,29 @@
 -- docs/SCRIPT.md: what is printed.
-use Prim.Native.Nat.{ℕ}
+use Prim.Native.Nat.{ℕ, _+_, _*_}
 use mathlib.Core.List.{List, _++_}
 use Rattle.script_language.specs.declared.Reason.{Reason}
 use Rattle.script_language.specs.declared.Reason.the-variants.{UnknownCommand, TooFewWords, TooManyWords, NumberExpected, NumberTooLarge, AccessExpected, LevelExpected, NotText, LineTooLong}
+use Rattle.script_machine.specs.declared.Machine.{Machine}
 use Rattle.script_machine.specs.declared.Reply.{Reply}
 use Rattle.script_machine.specs.declared.Reply.the-variants.{Done, OutsideRam, Number, Contents, Walked, Frame, Guest, Ledger, SetupNeeded}
 use Rattle.model.specs.State.{State}
 use Rattle.script_print.specs.Answer.{answer-text}
-use Rattle.script_print.specs.Frame.{frame-text, ledger-text}
+use Rattle.script_print.specs.Frame.{line-bytes, frame-text, ledger-text}
 use Rattle.script_print.specs.Guest.{guest-text}
 use Rattle.script_text.specs.Text.{ascii}
 use Rattle.script_text.specs.Digits.{decimal-of, sixteen-digits-of}
 
+-- The most bytes of a reply other than the whole ledger, of a mistake, of what any line prints.
+abbrev pub reply-bytes : ℕ
+reply-bytes = 256
+
+abbrev pub mistake-bytes : ℕ
+mistake-bytes = 28
+
+abbrev pub printed-bytes : Machine → ℕ
+printed-bytes m = line-bytes * m .frames + reply-bytes
+
+-- why a line can't be read
 unfoldable pub reason-text : Reason → List ℕ
 reason-text UnknownCommand = ascii "unknown command"
 reason-text TooFewWords = ascii "too few words"

@@ -22,6 +22,7 @@ pub struct Answered {
     pub printed: usize,
 }
 
+// Carries out a command, and prints the reply.
 fn answer_command(
     c: Command,
     m: Machine,
@@ -30,7 +31,8 @@ fn answer_command(
     out: &mut [u8],
 ) -> Answered
     requires { ⌜ (Machine-sound m (now ram) (now ledger)) × (Room (length (now ram)) (length (now out))) ⌝ }
-    ensures { λ r. ⌜ Line-answered (Line.Asks c) m (now (ram .entry)) (now (ledger .entry)) (now (ram .exit)) (now (ledger .exit)) (now (out .exit)) r ⌝ }
+    ensures { λ r. ⌜ Line-answered (Line.Asks c) m (now (ram .entry)) (now (ledger .entry))
+        (now (ram .exit)) (now (ledger .exit)) (now (out .exit)) r ⌝ }
 {
     let o = execute(c, m, ram, ledger);
     let machine = o.machine;
@@ -48,7 +50,8 @@ pub fn answer_line(
     out: &mut [u8],
 ) -> Answered
     requires { ⌜ (Machine-sound m (now ram) (now ledger)) × (Room (length (now ram)) (length (now out))) ⌝ }
-    ensures { λ r. ⌜ Line-answered (read-line (now (line .entry))) m (now (ram .entry)) (now (ledger .entry)) (now (ram .exit)) (now (ledger .exit)) (now (out .exit)) r ⌝ }
+    ensures { λ r. ⌜ Line-answered (read-line (now (line .entry))) m (now (ram .entry)) (now (ledger .entry))
+        (now (ram .exit)) (now (ledger .exit)) (now (out .exit)) r ⌝ }
 {
     match read_line(line) {
         Line::Empty => Answered {

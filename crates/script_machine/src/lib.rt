@@ -11,14 +11,22 @@ mod questions;
 mod start;
 mod words;
 
+// A frame of RAM; the words of a ledger: its header and its guests, and a row for each frame.
+pub const FRAME_BYTES: u64 = 4096;
+
+pub const HEADER_WORDS: u64 = 144;
+
+pub const ROW_WORDS: u64 = 16;
+
 // The machine that `setup` made: RAM is the first `frames` frames of the lent slice, from physical address `base`. No frames: none yet.
 // Ready: the ledger is what `setup` and the operations have made, and no `word` has hit a table since.
 pub struct Machine {
-    pub frames: u64,
     pub base: u64,
+    pub frames: u64,
     pub ready: bool,
 }
 
+// What a command answers, before it is text.
 pub enum Reply {
     Done,
     OutsideRam,
@@ -31,21 +39,24 @@ pub enum Reply {
     SetupNeeded,
 }
 
+// The machine after a command, and the reply.
 pub struct Outcome {
     pub machine: Machine,
     pub reply: Reply,
 }
 
+// Before the first `setup`.
 pub fn no_machine() -> Machine
     ensures { λ r. ⌜ (r .frames ≡ 0) × (r .base ≡ 0) × (r .ready ≡ false) ⌝ }
 {
     Machine {
-        frames: 0,
         base: 0,
+        frames: 0,
         ready: false,
     }
 }
 
+// Carries out a command.
 pub fn execute(c: Command, m: Machine, ram: &mut [u8], ledger: &mut [u32]) -> Outcome
     requires { ⌜ Machine-sound m (now ram) (now ledger) ⌝ }
     ensures { λ r. ⌜ Executed c m (now (ram .entry)) (now (ledger .entry)) (now (ram .exit)) (now (ledger .exit)) r ⌝ }
@@ -56,11 +67,11 @@ pub fn execute(c: Command, m: Machine, ram: &mut [u8], ledger: &mut [u32]) -> Ou
             base,
             monitor,
         } => start::set_up(m, ram, ledger, frames, base, monitor),
-        Command::StoreWord { at, value } => words::store_word(m, ram, ledger, at, value),
+        Command::StoreWord { address, value } => words::store_word(m, ram, ledger, address, value),
         Command::Operate(o) => operations::operate(o, m, ram, ledger),
         Command::Ask(q) => Outcome {
             machine: m,
-            reply: questions::answer(q, m, ram, ledger),
+            reply: questions::reply_to(q, m, ram, ledger),
         },
     }
 }

@@ -18,8 +18,8 @@ listed-guest-bytes = 2
 abbrev pub guest-list-bytes : ℕ
 guest-list-bytes = listed-guest-bytes * guests
 
-abbrev pub frame-bytes : ℕ
-frame-bytes = 128
+abbrev pub frame-text-bytes : ℕ
+frame-text-bytes = 128
 
 abbrev pub line-bytes : ℕ
 line-bytes = 160

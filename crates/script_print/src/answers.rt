@@ -10,7 +10,7 @@ use walk::Answer;
 use walk::FaultKind;
 
 // The array of a short text, filled up with spaces.
-const NAME_BYTES: usize = 20;
+pub const NAME_BYTES: usize = 20;
 
 // A short text: the first `length` bytes.
 pub struct Text {

@@ -6,7 +6,7 @@ ghost use Rattle.script_text.specs.Digits.{most-digits};
 ghost use Rattle.ledger.specs.Layout.{size-of, state-of};
 ghost use Rattle.ledger.specs.Sound.{Sound};
 ghost use Rattle.monitor_query.specs.Questions.{share-told};
-ghost use Rattle.script_print.specs.Frame.{listed-guest-bytes, guest-list-bytes, frame-bytes, line-bytes, listed-guest-text, guest-list-text, page-text, frame-text, line-text, ledger-text};
+ghost use Rattle.script_print.specs.Frame.{listed-guest-bytes, guest-list-bytes, frame-text-bytes, line-bytes, listed-guest-text, guest-list-text, page-text, frame-text, line-text, ledger-text};
 use ledger::header;
 use monitor_query::FrameKind;
 use monitor_query::shared_with;
@@ -71,8 +71,8 @@ fn put_page(
     mapped: u64,
 ) -> usize
     requires { ⌜ Sound (now ram) (now ledger) ⌝ }
-    requires { ⌜ at + frame-bytes ≤ length (now out) ⌝ }
-    ensures { λ r. ⌜ Wrote frame-bytes (now (out .entry)) at (now (out .exit)) r
+    requires { ⌜ at + frame-text-bytes ≤ length (now out) ⌝ }
+    ensures { λ r. ⌜ Wrote frame-text-bytes (now (out .entry)) at (now (out .exit)) r
         (page-text owner (share-told (state-of (now (ram .entry)) (now (ledger .entry))) f) mapped) ⌝ }
 {
     let owned = put_field(out, at, b"page ", owner);
@@ -86,8 +86,8 @@ fn put_page(
 // What `frame` prints.
 pub fn put_frame(out: &mut [u8], at: usize, ram: &[u8], ledger: &[u32], f: u64) -> usize
     requires { ⌜ Sound (now ram) (now ledger) ⌝ }
-    requires { ⌜ at + frame-bytes ≤ length (now out) ⌝ }
-    ensures { λ r. ⌜ Wrote frame-bytes (now (out .entry)) at (now (out .exit)) r
+    requires { ⌜ at + frame-text-bytes ≤ length (now out) ⌝ }
+    ensures { λ r. ⌜ Wrote frame-text-bytes (now (out .entry)) at (now (out .exit)) r
         (frame-text (state-of (now (ram .entry)) (now (ledger .entry))) f) ⌝ }
 {
     match what_frame(ram, ledger, f) {

@@ -23,7 +23,7 @@ use Rattle.script_language.specs.declared.Operation.the-variants.{Create, Give,
 use Rattle.script_machine.specs.declared.Machine.{Machine}
 use Rattle.script_machine.specs.declared.Reply.the-variants.{Number, Walked}
 use Rattle.script_machine.specs.Operations.{operation}
-use Rattle.script_machine.specs.Machine.{Machine-sound, ram-of, ledger-of, stage2-reply, translate-reply}
+use Rattle.script_machine.specs.Machine.{frame-bytes, no-such-guest, Machine-sound, ram-of, ledger-of, stage2-reply, translate-reply}
 use Rattle.script_machine.proofs.Laws.Parts.{size-is}
 
 module _ (m l : List ℕ) (ok : Sound m l) where
@@ -48,12 +48,14 @@ module _ (m l : List ℕ) (ok : Sound m l) where
       go (done s) (then-done a) z = unfold state-in in ap (λ (q : State). q .first) (z .1) ∙ a .first
 
 -- what set-up made where it refused nothing
-settled : (t : Bool) (s : State) (m l : List ℕ) (r : ℕ) (m′ l′ : List ℕ) → refusal (check t 4 (done s)) ≡ 0 → A.Outcome (check t 4 (done s)) m l r m′ l′ → (r ≡ 0) × (state-of m′ l′ ≡ s)
+settled : (t : Bool) (s : State) (m l : List ℕ) (r : ℕ) (m′ l′ : List ℕ) → refusal (check t 4 (done s)) ≡ 0
+    → A.Outcome (check t 4 (done s)) m l r m′ l′ → (r ≡ 0) × (state-of m′ l′ ≡ s)
 unfolding check
 settled true s m l r m′ l′ h x = x
 settled false s m l r m′ l′ h x = absurd (omega arith)
 
-pub started-so : (n b k : ℕ) (m l : List ℕ) (r : ℕ) (l′ : List ℕ) → refusal (S.setting-up n b k m l) ≡ 0 → S.SetUp n b k m l r l′ → (r ≡ 0) × (first-of l′ ≡ b / 4096)
+pub started-so : (n b k : ℕ) (m l : List ℕ) (r : ℕ) (l′ : List ℕ) → refusal (S.setting-up n b k m l) ≡ 0
+    → S.SetUp n b k m l r l′ → (r ≡ 0) × (first-of l′ ≡ b / frame-bytes)
 unfolding set-up
 started-so n b k m l r l′ h x =
     let y = settled _ (started n b k (word-of m)) m l r m l′ h (x .outcome) in
@@ -63,16 +65,20 @@ started-so n b k m l r l′ h x =
 same-walk : (x : List ℕ) {b b′ n n′ r r′ : ℕ} (a w : ℕ) → b ≡ b′ → n ≡ n′ → r ≡ r′ → answer-2 x b n r a w ≡ answer-2 x b′ n′ r′ a w
 same-walk x a w p q s = λ i. answer-2 x (p i) (q i) (s i) a w
 
-pub translated-so : {m : Machine} {ram l : List ℕ} → Machine-sound m ram l → m .ready ≡ true → (g a w : ℕ) →
-    cond (exists-of (ledger-of m l) g) (Walked (translated (ram-of m ram) (ledger-of m l) g a w)) (Number 5) ≡ translate-reply m ram l g a w
+pub translated-so : {m : Machine} {ram l : List ℕ} → Machine-sound m ram l → m .ready ≡ true → (g a w : ℕ)
+    → cond (exists-of (ledger-of m l) g) (Walked (translated (ram-of m ram) (ledger-of m l) g a w)) (Number no-such-guest)
+    ≡ translate-reply m ram l g a w
 unfolding translate-reply translated
 translated-so {m} {ram} {l} k h g a w = go (exists-of (ledger-of m l) g)
   where
-    root : 4096 * (first-of (ledger-of m l) + root-of (ledger-of m l) g) ≡ m .base + 4096 * root-of (ledger-of m l) g
+    root : frame-bytes * (first-of (ledger-of m l) + root-of (ledger-of m l) g) ≡ m .base + frame-bytes * root-of (ledger-of m l) g
     root = let b = k .based h in omega arith
 
     go : (t : Bool) →
-        cond t (Walked (cond t (answer-2 (ram-of m ram) (4096 * first-of (ledger-of m l)) (size-of (ledger-of m l)) (4096 * (first-of (ledger-of m l) + root-of (ledger-of m l) g)) a w) Refused)) (Number 5)
-        ≡ cond t (stage2-reply m ram (m .base + 4096 * root-of (ledger-of m l) g) a w) (Number 5)
+        cond t
+        (Walked (cond t
+        (answer-2 (ram-of m ram) (frame-bytes * first-of (ledger-of m l)) (size-of (ledger-of m l))
+        (frame-bytes * (first-of (ledger-of m l) + root-of (ledger-of m l) g)) a w) Refused)) (Number no-such-guest)
+        ≡ cond t (stage2-reply m ram (m .base + frame-bytes * root-of (ledger-of m l) g) a w) (Number no-such-guest)
     go true = ap (λ (z : Answer). Walked z) (same-walk (ram-of m ram) a w (sym (k .based h)) (size-is k h) root)
     go false = refl

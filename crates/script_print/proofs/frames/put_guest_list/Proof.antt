@@ -7,15 +7,17 @@ use Rattle.script_text.specs.Wrote.{Wrote}
 use Rattle.model.specs.State.{guests}
 use Rattle.ledger.specs.Layout.{state-of}
 use Rattle.monitor_query.specs.Questions.{share-told}
-use Rattle.script_print.specs.Frame.{list-to}
+use Rattle.script_print.specs.Frame.{listed-guest-bytes, guest-list-to}
 use Rattle.script_print.proofs.Laws.Listing.{list-none, list-passed, list-more, list-empty, list-full}
 use borrow.Author.Needs.{needs}
 use native.Mathlib.Omega.{arith}
-use Rattle.script_print.proofs.frames.put_list.Statement.{statement}
-use Rattle.script_print.proofs.frames.put_list.Tie as tie
+use Rattle.script_print.proofs.frames.put_guest_list.Statement.{statement}
+use Rattle.script_print.proofs.frames.put_guest_list.Tie as tie
 
 abbrev Inv-loop : tie.InvT-loop
-Inv-loop out₀ at ram ledger f least next₀ g₀ t10 out next g = (g ≤ guests) × (length out ≡ length out₀) × Wrote (2 * g) out₀ at out next (list-to least (share-told (state-of ram ledger) f) g)
+Inv-loop out₀ at ram ledger f least next₀ g₀ t10 out next g =
+    (g ≤ guests) × (length out ≡ length out₀) × Wrote (listed-guest-bytes * g) out₀ at out next
+    (guest-list-to least (share-told (state-of ram ledger) f) g)
 
 abbrev μ-loop : tie.MeasureT-loop
 μ-loop out₀ at ram ledger f least next₀ g₀ t10 out next g = guests - g
@@ -29,20 +31,29 @@ add-g c = search needs
 shared-with-requires : tie.Need-shared-with-requires Inv-loop μ-loop
 shared-with-requires c κs = c .before .before .before .before .before .pre .0
 
-put-member-requires : tie.Need-put-member-requires Inv-loop μ-loop
-put-member-requires c κs = (omega (arith, c .before .before .before .before .loop .inv .1, c .before .before .before .before .loop .inv .2 .near), omega arith)
+put-listed-guest-requires : tie.Need-put-listed-guest-requires Inv-loop μ-loop
+put-listed-guest-requires c κs = (omega (arith, c .before .before .before .before .loop .inv .1, c .before .before .before .before .loop .inv .2 .near), omega arith)
 
 loop-less : tie.Need-loop-less Inv-loop μ-loop
 loop-less c = omega arith
 
 loop-again : tie.Need-loop-again Inv-loop μ-loop
-loop-again c = (omega arith, omega (arith, c .before .before .put-member .kept, c .before .before .before .before .before .before .before .loop .inv .1), list-more (c .before .before .before .before .before .before .before .before .before .before .before .args .least) ((share-told (state-of (c .before .before .before .before .before .before .before .before .before .before .before .args .ram .now) (c .before .before .before .before .before .before .before .before .before .before .before .args .ledger .now)) (c .before .before .before .before .before .before .before .before .before .before .before .args .f))) (c .before .before .before .before .before .before .before .loop .g) (c .before .before .before .before .before .before .before .loop .inv .2) (c .before .before .before .before .before .shared-with .ensures) (c .before .before .before .before .if1 .taken) (c .before .before .put-member .ensures))
+loop-again c = (
+  omega arith,
+  omega (arith, c .before .before .put-listed-guest .kept, c .before .before .before .before .before .before .before .loop .inv .1),
+  list-more (c .before .before .before .before .before .before .before .before .before .before .before .args .least) ((share-told (state-of (c .before .before .before .before .before .before .before .before .before .before .before .args .ram .now) (c .before .before .before .before .before .before .before .before .before .before .before .args .ledger .now)) (c .before .before .before .before .before .before .before .before .before .before .before .args .f))) (c .before .before .before .before .before .before .before .loop .g) (c .before .before .before .before .before .before .before .loop .inv .2) (c .before .before .before .before .before .shared-with .ensures) (c .before .before .before .before .if1 .taken)
+      (c .before .before .put-listed-guest .ensures),
+)
 
 loop-less-2 : tie.Need-loop-less-2 Inv-loop μ-loop
 loop-less-2 c = omega arith
 
 loop-again-2 : tie.Need-loop-again-2 Inv-loop μ-loop
-loop-again-2 c = (omega arith, c .before .before .before .loop .inv .1, list-passed (c .before .before .before .before .before .before .before .args .least) ((share-told (state-of (c .before .before .before .before .before .before .before .args .ram .now) (c .before .before .before .before .before .before .before .args .ledger .now)) (c .before .before .before .before .before .before .before .args .f))) (c .before .before .before .loop .g) (c .before .before .before .loop .inv .2) (c .before .shared-with .ensures) (c .if1 .left))
+loop-again-2 c = (
+  omega arith,
+  c .before .before .before .loop .inv .1,
+  list-passed (c .before .before .before .before .before .before .before .args .least) ((share-told (state-of (c .before .before .before .before .before .before .before .args .ram .now) (c .before .before .before .before .before .before .before .args .ledger .now)) (c .before .before .before .before .before .before .before .args .f))) (c .before .before .before .loop .g) (c .before .before .before .loop .inv .2) (c .before .shared-with .ensures) (c .if1 .left),
+)
 
 slice-aggregate-put : tie.Need-slice-aggregate-put Inv-loop μ-loop
 slice-aggregate-put c = search needs
@@ -62,8 +73,8 @@ same-length-2 c = c .before .before .loop .inv .1
 returns-2 : tie.Need-returns-2 Inv-loop μ-loop
 returns-2 c = list-full (c .before .before .before .before .before .before .args .least) ((share-told (state-of (c .before .before .before .before .before .before .args .ram .now) (c .before .before .before .before .before .before .args .ledger .now)) (c .before .before .before .before .before .before .args .f))) (c .before .before .loop .g) (c .before .before .loop .inv .2) (c .before .before .loop .inv .0) (c .before .loop-test .left) (c .if2 .left)
 
-pub put-list-spec : {M : Type 1} → statement M
-put-list-spec =
+pub put-guest-list-spec : {M : Type 1} → statement M
+put-guest-list-spec =
     tie.close
     (tie.spec
     Inv-loop
@@ -71,7 +82,7 @@ put-list-spec =
     loop-holds
     add-g
     shared-with-requires
-    put-member-requires
+    put-listed-guest-requires
     loop-less
     loop-again
     loop-less-2

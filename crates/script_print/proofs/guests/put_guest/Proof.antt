@@ -62,7 +62,8 @@ same-length-3 c = search needs
 
 returns-3 : tie.Need-returns-3
 unfolding guest-text
-returns-3 c = wrote-within (wrote-then (wrote-then (c .before .before .before .before .before .before .before .before .before .before .put3 .ensures) (c .before .before .before .before .before .before .put-hex .ensures)) (c .before .before .put-dirty2 .ensures)) (omega arith) (rw (c .before .before .before .before .before .before .before .before .before .before .before .before .before .before .g2 .given .1))
+returns-3 c = wrote-within (wrote-then (wrote-then (c .before .before .before .before .before .before .before .before .before .before .put3 .ensures) (c .before .before .before .before .before .before .put-hex .ensures)) (c .before .before .put-dirty2 .ensures))
+    (omega arith) (rw (c .before .before .before .before .before .before .before .before .before .before .before .before .before .before .g2 .given .1))
 
 pub put-guest-spec : {M : Type 1} → statement M
 put-guest-spec =
