@@ -3,17 +3,17 @@
 use Prim.Native.Nat.{_≤_}
 use mathlib.Core.Path.{_≡_, refl, _∙_}
 use lib.ListN.{length}
-use Rattle.script_machine.proofs.Laws.Parts.{kept-none}
-use Rattle.pageledger.specs.Progress.{Ready}
+use Rattle.script_machine.proofs.Laws.Parts.{sound-before-setup}
+use Rattle.pageledger.specs.Progress.{Progress-sound}
 use borrow.Author.Needs.{needs}
 use native.Mathlib.Omega.{arith}
-use Rattle.pageledger.proofs.serve.Statement.{statement}
-use Rattle.pageledger.proofs.serve.Tie as tie
+use Rattle.pageledger.proofs.read_input.Statement.{statement}
+use Rattle.pageledger.proofs.read_input.Tie as tie
 
 abbrev Inv-loop : tie.InvT-loop
 Inv-loop line₀ ram₀ ledger₀ out₀ s₀ turns₀ line ram ledger out s turns =
     (length line ≡ length line₀) × (length ram ≡ length ram₀) × (length ledger ≡ length ledger₀) × (length out ≡ length out₀)
-    × Ready s (length line₀) ram ledger (length out₀)
+    × Progress-sound s (length line₀) ram ledger (length out₀)
 
 abbrev μ-loop : tie.MeasureT-loop
 μ-loop line₀ ram₀ ledger₀ out₀ s₀ turns₀ line ram ledger out s turns = turns
@@ -27,7 +27,11 @@ loop-holds c = (
   refl,
   refl,
   refl,
-  record { gathered = omega arith; kept = kept-none _ _ _ (c .no-machine .ensures .0) (c .no-machine .ensures .2); room = omega (arith, c .before .before .before .before .before .pre) },
+  record {
+    gathered = omega arith;
+    machine-sound = sound-before-setup _ _ _ (c .no-machine .ensures .0) (c .no-machine .ensures .2);
+    room = omega (arith, c .before .before .before .before .before .pre);
+  },
 )
 
 large-buffer-requires : tie.Need-large-buffer-requires Inv-loop μ-loop
@@ -63,12 +67,12 @@ returns c = c .before .before .before .before .before .before .before .before .l
 array-share-prefix-chunk : tie.Need-array-share-prefix-chunk Inv-loop μ-loop
 array-share-prefix-chunk c = search needs
 
-slice-aggregate-take-all : tie.Need-slice-aggregate-take-all Inv-loop μ-loop
-slice-aggregate-take-all c = search needs
+slice-aggregate-take-bytes : tie.Need-slice-aggregate-take-bytes Inv-loop μ-loop
+slice-aggregate-take-bytes c = search needs
 
-take-all-requires : tie.Need-take-all-requires Inv-loop μ-loop
-take-all-requires c κs = let r = c .before .before .before .before .before .before .before .before .before .before .before .before .before .loop .inv .4 in
-    record { gathered = omega (arith, r .gathered); kept = r .kept; room = omega (arith, r .room) }
+take-bytes-requires : tie.Need-take-bytes-requires Inv-loop μ-loop
+take-bytes-requires c κs = let r = c .before .before .before .before .before .before .before .before .before .before .before .before .before .loop .inv .4 in
+    record { gathered = omega (arith, r .gathered); machine-sound = r .machine-sound; room = omega (arith, r .room) }
 
 sub-turns : tie.Need-sub-turns Inv-loop μ-loop
 sub-turns c = search needs
@@ -77,12 +81,12 @@ loop-less : tie.Need-loop-less Inv-loop μ-loop
 loop-less c = search needs
 
 loop-again : tie.Need-loop-again Inv-loop μ-loop
-loop-again c = let r = c .before .before .before .before .before .before .before .before .take-all .ensures in (
-  c .before .before .before .before .before .before .before .before .take-all .kept .1 .1 .0 ∙ c .before .before .before .before .before .before .before .before .before .before .before .before .before .before .before .before .before .before .before .before .before .before .loop .inv .0,
-  c .before .before .before .before .before .before .before .before .take-all .kept .1 .1 .1 .0 ∙ c .before .before .before .before .before .before .before .before .before .before .before .before .before .before .before .before .before .before .before .before .before .before .loop .inv .1,
-  c .before .before .before .before .before .before .before .before .take-all .kept .1 .1 .1 .1 .0 ∙ c .before .before .before .before .before .before .before .before .before .before .before .before .before .before .before .before .before .before .before .before .before .before .loop .inv .2,
-  c .before .before .before .before .before .before .before .before .take-all .kept .1 .1 .1 .1 .1 .0 ∙ c .before .before .before .before .before .before .before .before .before .before .before .before .before .before .before .before .before .before .before .before .before .before .loop .inv .3,
-  record { gathered = omega (arith, r .gathered); kept = r .kept; room = omega (arith, r .room) },
+loop-again c = let r = c .before .before .before .before .before .before .before .before .take-bytes .ensures in (
+  c .before .before .before .before .before .before .before .before .take-bytes .kept .1 .1 .0 ∙ c .before .before .before .before .before .before .before .before .before .before .before .before .before .before .before .before .before .before .before .before .before .before .loop .inv .0,
+  c .before .before .before .before .before .before .before .before .take-bytes .kept .1 .1 .1 .0 ∙ c .before .before .before .before .before .before .before .before .before .before .before .before .before .before .before .before .before .before .before .before .before .before .loop .inv .1,
+  c .before .before .before .before .before .before .before .before .take-bytes .kept .1 .1 .1 .1 .0 ∙ c .before .before .before .before .before .before .before .before .before .before .before .before .before .before .before .before .before .before .before .before .before .before .loop .inv .2,
+  c .before .before .before .before .before .before .before .before .take-bytes .kept .1 .1 .1 .1 .1 .0 ∙ c .before .before .before .before .before .before .before .before .before .before .before .before .before .before .before .before .before .before .before .before .before .before .loop .inv .3,
+  record { gathered = omega (arith, r .gathered); machine-sound = r .machine-sound; room = omega (arith, r .room) },
 )
 
 same-length-5 : tie.Need-same-length-5 Inv-loop μ-loop
@@ -100,8 +104,8 @@ same-length-8 c = c .before .loop .inv .3
 returns-2 : tie.Need-returns-2 Inv-loop μ-loop
 returns-2 c = c .before .loop .inv .4
 
-pub serve-spec : {M : Type 1} → statement M
-serve-spec =
+pub read-input-spec : {M : Type 1} → statement M
+read-input-spec =
     tie.close
     (tie.spec
     Inv-loop
@@ -119,8 +123,8 @@ serve-spec =
     same-length-4
     returns
     array-share-prefix-chunk
-    slice-aggregate-take-all
-    take-all-requires
+    slice-aggregate-take-bytes
+    take-bytes-requires
     sub-turns
     loop-less
     loop-again

@@ -3,16 +3,17 @@
 use Prim.Native.Nat.{_≤_, _-_}
 use mathlib.Core.Path.{_≡_, refl, _∙_}
 use lib.ListN.{length}
-use Rattle.pageledger.specs.Progress.{Ready}
+use Rattle.pageledger.specs.Progress.{Progress-sound}
 use borrow.Author.Needs.{needs}
 use native.Mathlib.Omega.{arith}
-use Rattle.pageledger.proofs.take_all.Statement.{statement}
-use Rattle.pageledger.proofs.take_all.Tie as tie
+use Rattle.pageledger.proofs.take_bytes.Statement.{statement}
+use Rattle.pageledger.proofs.take_bytes.Tie as tie
 
 abbrev Inv-loop : tie.InvT-loop
 Inv-loop chunk line₀ ram₀ ledger₀ out₀ t₀ i₀ line ram ledger out t i =
-    (i ≤ length chunk) × (length line ≡ length line₀) × (length ram ≡ length ram₀) × (length ledger ≡ length ledger₀) × (length out ≡ length out₀)
-    × Ready t (length line₀) ram ledger (length out₀)
+    (i ≤ length chunk) × (length line ≡ length line₀) × (length ram ≡ length ram₀) × (length ledger ≡ length ledger₀)
+    × (length out ≡ length out₀)
+    × Progress-sound t (length line₀) ram ledger (length out₀)
 
 abbrev μ-loop : tie.MeasureT-loop
 μ-loop chunk line₀ ram₀ ledger₀ out₀ t₀ i₀ line ram ledger out t i = length chunk - i
@@ -20,12 +21,12 @@ abbrev μ-loop : tie.MeasureT-loop
 loop-holds : tie.Need-loop-holds Inv-loop μ-loop
 loop-holds c = (search needs, refl, refl, refl, refl, c .before .before .before .before .before .pre)
 
-shared-slice-read-take : tie.Need-shared-slice-read-take Inv-loop μ-loop
-shared-slice-read-take c = search needs
+shared-slice-read-take-byte : tie.Need-shared-slice-read-take-byte Inv-loop μ-loop
+shared-slice-read-take-byte c = search needs
 
-take-requires : tie.Need-take-requires Inv-loop μ-loop
-take-requires c κs = let r = c .before .before .before .before .before .before .loop .inv .5 in
-    record { gathered = omega (arith, r .gathered); kept = r .kept; room = omega (arith, r .room) }
+take-byte-requires : tie.Need-take-byte-requires Inv-loop μ-loop
+take-byte-requires c κs = let r = c .before .before .before .before .before .before .loop .inv .5 in
+    record { gathered = omega (arith, r .gathered); machine-sound = r .machine-sound; room = omega (arith, r .room) }
 
 add-i : tie.Need-add-i Inv-loop μ-loop
 add-i c = search needs
@@ -34,13 +35,13 @@ loop-less : tie.Need-loop-less Inv-loop μ-loop
 loop-less c = search needs
 
 loop-again : tie.Need-loop-again Inv-loop μ-loop
-loop-again c = let r = c .before .before .before .before .before .before .before .before .take .ensures in (
+loop-again c = let r = c .before .before .before .before .before .before .before .before .take-byte .ensures in (
   omega arith,
-  c .before .before .before .before .before .before .before .before .take .kept .1 .1 .0 ∙ c .before .before .before .before .before .before .before .before .before .before .before .before .before .before .before .loop .inv .1,
-  c .before .before .before .before .before .before .before .before .take .kept .1 .1 .1 .0 ∙ c .before .before .before .before .before .before .before .before .before .before .before .before .before .before .before .loop .inv .2,
-  c .before .before .before .before .before .before .before .before .take .kept .1 .1 .1 .1 .0 ∙ c .before .before .before .before .before .before .before .before .before .before .before .before .before .before .before .loop .inv .3,
-  c .before .before .before .before .before .before .before .before .take .kept .1 .1 .1 .1 .1 .0 ∙ c .before .before .before .before .before .before .before .before .before .before .before .before .before .before .before .loop .inv .4,
-  record { gathered = omega (arith, r .gathered); kept = r .kept; room = omega (arith, r .room) },
+  c .before .before .before .before .before .before .before .before .take-byte .kept .1 .1 .0 ∙ c .before .before .before .before .before .before .before .before .before .before .before .before .before .before .before .loop .inv .1,
+  c .before .before .before .before .before .before .before .before .take-byte .kept .1 .1 .1 .0 ∙ c .before .before .before .before .before .before .before .before .before .before .before .before .before .before .before .loop .inv .2,
+  c .before .before .before .before .before .before .before .before .take-byte .kept .1 .1 .1 .1 .0 ∙ c .before .before .before .before .before .before .before .before .before .before .before .before .before .before .before .loop .inv .3,
+  c .before .before .before .before .before .before .before .before .take-byte .kept .1 .1 .1 .1 .1 .0 ∙ c .before .before .before .before .before .before .before .before .before .before .before .before .before .before .before .loop .inv .4,
+  record { gathered = omega (arith, r .gathered); machine-sound = r .machine-sound; room = omega (arith, r .room) },
 )
 
 same-length : tie.Need-same-length Inv-loop μ-loop
@@ -58,15 +59,15 @@ same-length-4 c = c .before .loop .inv .4
 returns : tie.Need-returns Inv-loop μ-loop
 returns c = c .before .loop .inv .5
 
-pub take-all-spec : {M : Type 1} → statement M
-take-all-spec =
+pub take-bytes-spec : {M : Type 1} → statement M
+take-bytes-spec =
     tie.close
     (tie.spec
     Inv-loop
     μ-loop
     loop-holds
-    shared-slice-read-take
-    take-requires
+    shared-slice-read-take-byte
+    take-byte-requires
     add-i
     loop-less
     loop-again
