@@ -6,7 +6,6 @@ ghost use Rattle.script.specs.LineAnswered.{room-for, Room};
 ghost use Rattle.pageledger.specs.Progress.{Progress-sound};
 use libc::STDIN_FILENO;
 use libc::STDOUT_FILENO;
-use script_machine::FRAME_BYTES;
 use script_machine::HEADER_WORDS;
 use script_machine::Machine;
 use script_machine::ROW_WORDS;
@@ -14,7 +13,7 @@ use script_machine::ROW_WORDS;
 // The frames that a script can have.
 const FRAMES: usize = 1024;
 
-const RAM_BYTES: usize = FRAMES * FRAME_BYTES as usize;
+const RAM_BYTES: usize = FRAMES * memory::FRAME_BYTES as usize;
 
 const LEDGER_WORDS: usize = HEADER_WORDS as usize + ROW_WORDS as usize * FRAMES;
 

@@ -13,7 +13,6 @@ ghost use Rattle.script.specs.Printed.{reply-bytes, mistake-bytes, print
 ghost use Rattle.script_machine.specs.declared.Reply.the-variants.{Frame, Ledger};
 ghost use Rattle.script_text.specs.Text.{ascii};
 use script_language::Reason;
-use script_machine::FRAME_BYTES;
 use script_machine::HEADER_WORDS;
 use script_machine::Machine;
 use script_machine::ROW_WORDS;
@@ -105,7 +104,7 @@ fn put_frame_line(out: &mut [u8], m: Machine, ram: &[u8], ledger: &[u32], f: u64
     ensures { λ r. ⌜ Wrote (frame-text-bytes + 1) (now (out .entry)) 0 (now (out .exit)) r
         (reply-text (state-of (ram-of m (now (ram .entry))) (ledger-of m (now (ledger .entry)))) (Frame f)) ⌝ }
 {
-    let n = (FRAME_BYTES * m.frames) as usize;
+    let n = (memory::FRAME_BYTES * m.frames) as usize;
     let w = (HEADER_WORDS + ROW_WORDS * m.frames) as usize;
     let at = put_frame(out, 0, &ram[..n], &ledger[..w], f);
     put_line_end(out, at)
@@ -117,7 +116,7 @@ fn put_whole_ledger(out: &mut [u8], m: Machine, ram: &[u8], ledger: &[u32]) -> u
     ensures { λ r. ⌜ Wrote (line-bytes * m .frames) (now (out .entry)) 0 (now (out .exit)) r
         (reply-text (state-of (ram-of m (now (ram .entry))) (ledger-of m (now (ledger .entry)))) Ledger) ⌝ }
 {
-    let n = (FRAME_BYTES * m.frames) as usize;
+    let n = (memory::FRAME_BYTES * m.frames) as usize;
     let w = (HEADER_WORDS + ROW_WORDS * m.frames) as usize;
     put_ledger(out, 0, &ram[..n], &ledger[..w])
 }

@@ -11,9 +11,7 @@ mod questions;
 mod start;
 mod words;
 
-// A frame of RAM; the words of a ledger: its header and its guests, and a row for each frame.
-pub const FRAME_BYTES: u64 = 4096;
-
+// The words of a ledger: its header with the guests, and a row for each frame.
 pub const HEADER_WORDS: u64 = 144;
 
 pub const ROW_WORDS: u64 = 16;

@@ -5,7 +5,6 @@ ghost use Rattle.monitor.specs.Answers.{Answers};
 ghost use Rattle.script_language.specs.declared.Command.the-variants.{Operate};
 ghost use Rattle.script_machine.specs.Operations.{operation};
 ghost use Rattle.script_machine.specs.Machine.{Machine-sound, Executed};
-use super::FRAME_BYTES;
 use super::HEADER_WORDS;
 use super::Machine;
 use super::Outcome;
@@ -52,7 +51,7 @@ pub fn operate(o: Operation, m: Machine, ram: &mut [u8], ledger: &mut [u32]) -> 
     ensures { λ r. ⌜ Executed (Operate o) m (now (ram .entry)) (now (ledger .entry)) (now (ram .exit)) (now (ledger .exit)) r ⌝ }
 {
     if m.ready {
-        let n = (FRAME_BYTES * m.frames) as usize;
+        let n = (memory::FRAME_BYTES * m.frames) as usize;
         let w = (HEADER_WORDS + ROW_WORDS * m.frames) as usize;
         let k = perform(o, &mut ram[..n], &mut ledger[..w]);
         return Outcome {

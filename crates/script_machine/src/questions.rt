@@ -6,7 +6,6 @@ ghost use Rattle.ledger.specs.Sound.{Sound};
 ghost use Rattle.monitor_query.specs.Questions.{guest-told, translated};
 ghost use Rattle.script_machine.specs.declared.Reply.the-variants.{Number, Walked, Guest};
 ghost use Rattle.script_machine.specs.Machine.{no-such-guest, Ram-lent, Machine-sound, ram-of, ledger-of, stage2-reply, walk-reply, translate-reply, if-ready, reply-to};
-use super::FRAME_BYTES;
 use super::HEADER_WORDS;
 use super::Machine;
 use super::ROW_WORDS;
@@ -22,7 +21,7 @@ fn walk_stage2(m: Machine, ram: &[u8], root: u64, ipa: u64, access: u64) -> Repl
     requires { ⌜ Ram-lent m (now ram) ⌝ }
     ensures { λ r. ⌜ r ≡ stage2-reply m (now (ram .entry)) root ipa access ⌝ }
 {
-    let n = (FRAME_BYTES * m.frames) as usize;
+    let n = (memory::FRAME_BYTES * m.frames) as usize;
     Reply::Walked(walk::stage2(&ram[..n], m.base, m.frames, root, ipa, access))
 }
 
@@ -30,7 +29,7 @@ fn walk_both(m: Machine, ram: &[u8], root1: u64, root2: u64, va: u64, access: u6
     requires { ⌜ Ram-lent m (now ram) ⌝ }
     ensures { λ r. ⌜ r ≡ walk-reply m (now (ram .entry)) root1 root2 va access el ⌝ }
 {
-    let n = (FRAME_BYTES * m.frames) as usize;
+    let n = (memory::FRAME_BYTES * m.frames) as usize;
     Reply::Walked(walk::both_stages(&ram[..n], m.base, m.frames, root1, root2, va, access, el))
 }
 
@@ -51,7 +50,7 @@ fn translate(m: Machine, ram: &[u8], ledger: &[u32], g: u64, ipa: u64, access: u
     ensures { λ r. ⌜ r ≡ if-ready m (translate-reply m (now (ram .entry)) (now (ledger .entry)) g ipa access) ⌝ }
 {
     if m.ready {
-        let n = (FRAME_BYTES * m.frames) as usize;
+        let n = (memory::FRAME_BYTES * m.frames) as usize;
         let w = (HEADER_WORDS + ROW_WORDS * m.frames) as usize;
         return translation(&ram[..n], &ledger[..w], g, ipa, access);
     }
@@ -64,7 +63,7 @@ fn what_guest(m: Machine, ram: &[u8], ledger: &[u32], g: u64) -> Reply
         (Guest (guest-told (state-of (ram-of m (now (ram .entry))) (ledger-of m (now (ledger .entry)))) g)) ⌝ }
 {
     if m.ready {
-        let n = (FRAME_BYTES * m.frames) as usize;
+        let n = (memory::FRAME_BYTES * m.frames) as usize;
         let w = (HEADER_WORDS + ROW_WORDS * m.frames) as usize;
         return Reply::Guest(monitor_query::what_guest(&ram[..n], &ledger[..w], g));
     }

@@ -2,7 +2,6 @@
 ghost use mathlib.Core.Path.{_≡_};
 ghost use Rattle.script_language.specs.declared.Command.the-variants.{SetUp};
 ghost use Rattle.script_machine.specs.Machine.{Machine-sound, allowed-of, Executed};
-use super::FRAME_BYTES;
 use super::HEADER_WORDS;
 use super::Machine;
 use super::Outcome;
@@ -16,28 +15,16 @@ const OUT_OF_RANGE: u64 = 4;
 fn allowed(lent: u64, words: u64, frames: u64, base: u64, monitor: u64) -> bool
     ensures { λ r. ⌜ r ≡ allowed-of lent words frames base monitor ⌝ }
 {
-    if frames < 16 {
-        return false;
+    if memory::ram_fits(base, frames) {
+        if lent < frames {
+            return false;
+        }
+        if words < HEADER_WORDS + ROW_WORDS * frames {
+            return false;
+        }
+        return monitor < frames;
     }
-    if 65536 < frames {
-        return false;
-    }
-    if lent < frames {
-        return false;
-    }
-    if words < 144 + 16 * frames {
-        return false;
-    }
-    if base % 4096 != 0 {
-        return false;
-    }
-    if 0x1000000000000 < base {
-        return false;
-    }
-    if 0x1000000000000 < base + 4096 * frames {
-        return false;
-    }
-    monitor < frames
+    false
 }
 
 pub fn set_up(
@@ -52,10 +39,10 @@ pub fn set_up(
     ensures { λ r. ⌜ Executed (SetUp frames base monitor) m (now (ram .entry)) (now (ledger .entry))
         (now (ram .exit)) (now (ledger .exit)) r ⌝ }
 {
-    let lent = ram.len() / FRAME_BYTES as usize;
+    let lent = ram.len() / memory::FRAME_BYTES as usize;
     let words = ledger.len();
     if allowed(lent as u64, words as u64, frames, base, monitor) {
-        let n = FRAME_BYTES as usize * frames as usize;
+        let n = memory::FRAME_BYTES as usize * frames as usize;
         let w = HEADER_WORDS as usize + ROW_WORDS as usize * frames as usize;
         memory::clear(ram, 0, n);
         let answer = monitor::start::set_up(&ram[..n], &mut ledger[..w], frames, base, monitor);

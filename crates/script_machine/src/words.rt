@@ -2,12 +2,12 @@
 ghost use mathlib.Core.Path.{_≡_};
 ghost use mathlib.Core.Bool.{true, not, _&&_, _||_};
 ghost use Prim.Native.Nat.{_+_, _*_, _/_, _^_, _<_, _≤_};
+ghost use Rattle.memory.specs.Ram.{frame-bytes};
 ghost use Rattle.model.specs.State.{tabled};
 ghost use Rattle.ledger.specs.Layout.{size-of, kind-of};
 ghost use Rattle.ledger.specs.LedgerSound.{Ledger-sound};
 ghost use Rattle.script_language.specs.declared.Command.the-variants.{StoreWord};
-ghost use Rattle.script_machine.specs.Machine.{frame-bytes, word-bytes, Ram-lent, Machine-sound, word-in-ram, word-in-table, peek-reply, Executed};
-use super::FRAME_BYTES;
+ghost use Rattle.script_machine.specs.Machine.{word-bytes, Ram-lent, Machine-sound, word-in-ram, word-in-table, peek-reply, Executed};
 use super::HEADER_WORDS;
 use super::Machine;
 use super::Outcome;
@@ -27,7 +27,7 @@ fn in_ram(m: Machine, a: u64) -> bool
     requires { ⌜ frame-bytes * m .frames < 2 ^ 64 ⌝ }
     ensures { λ r. ⌜ r ≡ word-in-ram m a ⌝ }
 {
-    let size = FRAME_BYTES * m.frames;
+    let size = memory::FRAME_BYTES * m.frames;
     if a < m.base {
         return false;
     }
@@ -60,10 +60,10 @@ fn in_table(ledger: &[u32], at: u64) -> bool
     ensures { λ r. ⌜ r ≡ (tabled (kind-of (now (ledger .entry)) (at / frame-bytes))
         || tabled (kind-of (now (ledger .entry)) ((at + 7) / frame-bytes))) ⌝ }
 {
-    if holds_table(ledger, at / FRAME_BYTES) {
+    if holds_table(ledger, at / memory::FRAME_BYTES) {
         return true;
     }
-    holds_table(ledger, (at + (WORD_BYTES - 1)) / FRAME_BYTES)
+    holds_table(ledger, (at + (WORD_BYTES - 1)) / memory::FRAME_BYTES)
 }
 
 // Is the machine ready when a word has been written at physical address a?

@@ -4,6 +4,7 @@ use mathlib.Core.Bool.{Bool, true, false, cond}
 use mathlib.Core.List.{List}
 use Prim.Native.Nat.{ℕ, _+_, _*_, _/_}
 use native.Mathlib.Omega.{arith}
+use Rattle.memory.specs.Ram.{frame-bytes}
 use Rattle.walk.specs.Both.{answer-2}
 use Rattle.walk.specs.declared.Answer.{Answer}
 use Rattle.walk.specs.declared.Answer.the-variants.{Refused}
@@ -23,7 +24,7 @@ use Rattle.script_language.specs.declared.Operation.the-variants.{Create, Give,
 use Rattle.script_machine.specs.declared.Machine.{Machine}
 use Rattle.script_machine.specs.declared.Reply.the-variants.{Number, Walked}
 use Rattle.script_machine.specs.Operations.{operation}
-use Rattle.script_machine.specs.Machine.{frame-bytes, no-such-guest, Machine-sound, ram-of, ledger-of, stage2-reply, translate-reply}
+use Rattle.script_machine.specs.Machine.{no-such-guest, Machine-sound, ram-of, ledger-of, stage2-reply, translate-reply}
 use Rattle.script_machine.proofs.Laws.Parts.{size-is}
 
 module _ (m l : List ℕ) (ok : Sound m l) where

@@ -7,21 +7,22 @@ use Prim.Native.Nat.{ℕ, _-_, _*_, _≤_}
 use native.Mathlib.Omega.{arith}
 use lib.ListN.{length}
 use lib.Seq.{length-take-le, take-all}
+use Rattle.memory.specs.Ram.{frame-bytes}
 use Rattle.model.proofs.Laws.Base.{lt?}
 use Rattle.ledger.specs.Layout.{words-for, size-of}
 use Rattle.script_machine.specs.declared.Machine.{Machine}
 use Rattle.script_machine.specs.Machine.{ram-of, ledger-of, Machine-sound}
 
 -- how long the machine's part of a slice is
-pub ram-part : {m : Machine} {ram l : List ℕ} → Machine-sound m ram l → 4096 * m .frames ≡ length (ram-of m ram)
-ram-part {m} {ram} k = sym (length-take-le (4096 * m .frames) ram (k .within))
+pub ram-part : {m : Machine} {ram l : List ℕ} → Machine-sound m ram l → frame-bytes * m .frames ≡ length (ram-of m ram)
+ram-part {m} {ram} k = sym (length-take-le (frame-bytes * m .frames) ram (k .within))
 
 -- of a machine that is ready: the ledger has a row for each of its frames, and is in the lent slice
 module _ {m : Machine} {ram l : List ℕ} (k : Machine-sound m ram l) (h : m .ready ≡ true) where
   pub size-is : size-of (ledger-of m l) ≡ m .frames
   size-is =
-      let a : length (ram-of m ram) ≡ size-of (ledger-of m l) * 4096 = k .sound h .ram-fits in
-      let b = length-take-le (4096 * m .frames) ram (k .within) in
+      let a : length (ram-of m ram) ≡ size-of (ledger-of m l) * frame-bytes = k .sound h .ram-fits in
+      let b = length-take-le (frame-bytes * m .frames) ram (k .within) in
       omega arith
 
   pub ledger-within : words-for (m .frames) ≤ length l

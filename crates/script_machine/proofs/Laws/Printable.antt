@@ -4,6 +4,7 @@ use mathlib.Core.Bool.{Bool, true, false, cond}
 use mathlib.Core.List.{List}
 use Prim.Native.Nat.{ℕ, _-_, _/_}
 use lib.ListN.{length}
+use Rattle.memory.specs.Ram.{frame-bytes}
 use Rattle.memory.specs.Word.{word-at}
 use Rattle.walk.specs.declared.Answer.{Answer}
 use Rattle.ledger.specs.Layout.{exists-of}
@@ -63,7 +64,7 @@ module _ (m : Machine) (r : Outcome) where
     operation-printable false o x = rw (x .0) tt
 
     effect-printable : (c : Command) → Effect c m ram l ram′ l′ r → Printable (r .machine) (r .reply)
-    effect-printable (SetUp n b k) x = setup-printable (allowed-of (length ram / 4096) (length l) n b k) n b k x
+    effect-printable (SetUp n b k) x = setup-printable (allowed-of (length ram / frame-bytes) (length l) n b k) n b k x
     effect-printable (StoreWord a v) x = word-printable (word-in-ram m a) a v x
     effect-printable (Operate o) x = operation-printable (m .ready) o x
     effect-printable (Ask q) x = printable-so _ (reply-printable ram l q) (x .0)
