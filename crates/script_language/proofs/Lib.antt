@@ -1,4 +1,2 @@
--- Laws of the definitions, for the proofs of the code.
-mod Names
-mod Shapes
-mod Parsing
+-- Proofs of the functions of src/, each in its folder, and the laws that they use.
+pub mod Laws

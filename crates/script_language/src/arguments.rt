@@ -2,15 +2,16 @@
 ghost use mathlib.Core.Path.{_≡_};
 ghost use Prim.Native.Nat.{ℕ, _<_};
 ghost use lib.ListN.{length, getD};
-ghost use Rattle.script_language.specs.Verbs.{words-of, forms-of};
-ghost use Rattle.script_language.specs.Commands.{named, argument-of, values-for, read-from};
-use crate::Read;
+ghost use Rattle.script_language.specs.Names.{first-words, forms-of};
+ghost use Rattle.script_language.specs.Commands.{named-argument, read-argument, values-for, read-from};
+use crate::Line;
+use crate::MOST_ARGUMENTS;
 use crate::Reason;
-use crate::verbs::Verb;
-use crate::verbs::made;
-use crate::verbs::numbers_of;
-use crate::verbs::others_of;
-use crate::verbs::place;
+use crate::names::CommandName;
+use crate::names::access_and_level;
+use crate::names::command_numbers;
+use crate::names::command_with;
+use crate::names::word_index;
 use script_text::numbers::Numeral;
 use script_text::numbers::number;
 use script_text::words::word_end;
@@ -18,17 +19,17 @@ use script_text::words::word_start;
 
 // What an argument is: a number, a kind of access, a level.
 pub enum Form {
-    Plain,
+    Number,
     Access,
     Level,
 }
 
 // The form of argument i, of which the first ones are numbers.
 fn form_of(numbers: usize, i: usize) -> Form
-    ensures { λ r. ⌜ ((k : ℕ) → i < length (forms-of numbers k) → r ≡ getD (forms-of numbers k) i Form.Plain) ⌝ }
+    ensures { λ r. ⌜ ((k : ℕ) → i < length (forms-of numbers k) → r ≡ getD (forms-of numbers k) i Form.Number) ⌝ }
 {
     if i < numbers {
-        return Form::Plain;
+        return Form::Number;
     }
     if i == numbers {
         return Form::Access;
@@ -43,10 +44,10 @@ pub enum Argument {
 }
 
 // A word that is one of the first n of `names`: its place there.
-fn name_argument(w: &[u8], names: &[u8], n: usize, why: Reason) -> Argument
-    ensures { λ r. ⌜ r ≡ named (now (w .entry)) (words-of n (now (names .entry))) why ⌝ }
+fn named_argument(w: &[u8], names: &[u8], n: usize, why: Reason) -> Argument
+    ensures { λ r. ⌜ r ≡ named-argument (now (w .entry)) (first-words n (now (names .entry))) why ⌝ }
 {
-    let k = place(w, names, n);
+    let k = word_index(w, names, n);
     if k < n {
         return Argument::Given(k as u64);
     }
@@ -54,7 +55,7 @@ fn name_argument(w: &[u8], names: &[u8], n: usize, why: Reason) -> Argument
 }
 
 fn number_argument(s: &[u8]) -> Argument
-    ensures { λ r. ⌜ r ≡ argument-of Form.Plain (now (s .entry)) ⌝ }
+    ensures { λ r. ⌜ r ≡ read-argument Form.Number (now (s .entry)) ⌝ }
 {
     match number(s) {
         Numeral::Value(v) => Argument::Given(v),
@@ -64,38 +65,38 @@ fn number_argument(s: &[u8]) -> Argument
 }
 
 fn read_argument(f: Form, s: &[u8]) -> Argument
-    ensures { λ r. ⌜ r ≡ argument-of f (now (s .entry)) ⌝ }
+    ensures { λ r. ⌜ r ≡ read-argument f (now (s .entry)) ⌝ }
 {
     match f {
-        Form::Plain => number_argument(s),
-        Form::Access => name_argument(s, b"r w x", 3, Reason::AccessExpected),
-        Form::Level => name_argument(s, b"el0 el1", 2, Reason::LevelExpected),
+        Form::Number => number_argument(s),
+        Form::Access => named_argument(s, b"r w x", 3, Reason::AccessExpected),
+        Form::Level => named_argument(s, b"el0 el1", 2, Reason::LevelExpected),
     }
 }
 
-// The words after the first, read as v wants them.
-pub fn arguments(v: Verb, s: &[u8]) -> Read
+// The words after the first, read as the command wants them.
+pub fn read_arguments(v: CommandName, s: &[u8]) -> Line
     ensures { λ r. ⌜ r ≡ read-from v (values-for v (now (s .entry))) ⌝ }
 {
-    let numbers = numbers_of(v);
-    let n = numbers + others_of(v);
-    let mut a = [0u64; 5];
+    let numbers = command_numbers(v);
+    let n = numbers + access_and_level(v);
+    let mut a = [0u64; MOST_ARGUMENTS];
     let mut at = 0;
     let mut i = 0;
     while i < n {
         let from = word_start(s, at);
         if from == s.len() {
-            return Read::Unread(Reason::TooFewWords);
+            return Line::Unreadable(Reason::TooFewWords);
         }
         at = word_end(s, from);
         match read_argument(form_of(numbers, i), &s[from..at]) {
             Argument::Given(x) => a[i] = x,
-            Argument::Wrong(r) => return Read::Unread(r),
+            Argument::Wrong(r) => return Line::Unreadable(r),
         }
         i += 1;
     }
     if word_start(s, at) == s.len() {
-        return Read::Asked(made(v, a));
+        return Line::Asks(command_with(v, a));
     }
-    Read::Unread(Reason::TooManyWords)
+    Line::Unreadable(Reason::TooManyWords)
 }

@@ -1,19 +1,25 @@
 // The script language's lines: a line is taken apart into a command, or into why it can't be read.
 // It knows the commands' words and arguments, and not what they do.
 ghost use mathlib.Core.Path.{_≡_};
-ghost use Rattle.script_language.specs.Commands.{read-after-first, read-words, read-of};
-ghost use Rattle.script_text.specs.Words.{unblank};
+ghost use Rattle.script_language.specs.Commands.{read-command, read-words, read-line};
+ghost use Rattle.script_text.specs.Words.{after-blanks};
 
 mod arguments;
-mod verbs;
+mod names;
 
-use arguments::arguments;
+use arguments::read_arguments;
+use names::FirstWord;
+use names::first_word;
 use script_text::words::is_text;
 use script_text::words::text_end;
 use script_text::words::word_end;
 use script_text::words::word_start;
-use verbs::First;
-use verbs::first_word;
+
+// A line of so many bytes, its line end not counted, is too long.
+const LINE_LIMIT: usize = 4096;
+
+// `walk` has five, and no command has more.
+const MOST_ARGUMENTS: usize = 5;
 
 // An operation of the monitor (document 03, section 3), as a script names it.
 pub enum Operation {
@@ -35,15 +41,15 @@ pub enum Operation {
         guest: u64,
     },
     Share {
-        guest: u64,
+        owner: u64,
         frame: u64,
-        other: u64,
+        with: u64,
         writing: u64,
     },
     Unshare {
-        guest: u64,
+        owner: u64,
         frame: u64,
-        other: u64,
+        with: u64,
     },
     Take {
         frame: u64,
@@ -57,12 +63,12 @@ pub enum Operation {
     },
 }
 
-// What a command asks, and changes nothing.
+// What a command asks that changes nothing.
 pub enum Question {
     PeekWord {
-        at: u64,
+        address: u64,
     },
-    WalkOne {
+    WalkStage2 {
         root: u64,
         ipa: u64,
         access: u64,
@@ -88,6 +94,7 @@ pub enum Question {
     Ledger,
 }
 
+// What a line asks for.
 pub enum Command {
     SetUp {
         frames: u64,
@@ -95,7 +102,7 @@ pub enum Command {
         monitor: u64,
     },
     StoreWord {
-        at: u64,
+        address: u64,
         value: u64,
     },
     Operate(Operation),
@@ -115,44 +122,46 @@ pub enum Reason {
     LineTooLong,
 }
 
-// What a line is.
-pub enum Read {
-    Nothing,
-    Asked(Command),
-    Unread(Reason),
+// What a line is: blanks and a comment, a command, or none.
+pub enum Line {
+    Empty,
+    Asks(Command),
+    Unreadable(Reason),
 }
 
-fn after_first(w: First, s: &[u8]) -> Read
-    ensures { λ r. ⌜ r ≡ read-after-first w (now (s .entry)) ⌝ }
+// The command of a first word, with the words after it.
+fn read_command(w: FirstWord, s: &[u8]) -> Line
+    ensures { λ r. ⌜ r ≡ read-command w (now (s .entry)) ⌝ }
 {
     match w {
-        First::Known(v) => arguments(v, s),
-        First::Unknown => Read::Unread(Reason::UnknownCommand),
+        FirstWord::Known(v) => read_arguments(v, s),
+        FirstWord::Unknown => Line::Unreadable(Reason::UnknownCommand),
     }
 }
 
-fn read_text(s: &[u8]) -> Read
-    ensures { λ r. ⌜ r ≡ read-words (unblank (now (s .entry))) ⌝ }
+// The words of a line's text.
+fn read_words(s: &[u8]) -> Line
+    ensures { λ r. ⌜ r ≡ read-words (after-blanks (now (s .entry))) ⌝ }
 {
     let from = word_start(s, 0);
     if from == s.len() {
-        return Read::Nothing;
+        return Line::Empty;
     }
     let to = word_end(s, from);
-    after_first(first_word(&s[from..to]), &s[to..])
+    read_command(first_word(&s[from..to]), &s[to..])
 }
 
 // Reads a line, given without its line end.
-pub fn read_line(line: &[u8]) -> Read
-    ensures { λ r. ⌜ r ≡ read-of (now (line .entry)) ⌝ }
+pub fn read_line(line: &[u8]) -> Line
+    ensures { λ r. ⌜ r ≡ read-line (now (line .entry)) ⌝ }
 {
-    if 4096 <= line.len() {
-        return Read::Unread(Reason::LineTooLong);
+    if LINE_LIMIT <= line.len() {
+        return Line::Unreadable(Reason::LineTooLong);
     }
     let end = text_end(line);
     let s = &line[..end];
     if is_text(s) {
-        return read_text(s);
+        return read_words(s);
     }
-    Read::Unread(Reason::NotText)
+    Line::Unreadable(Reason::NotText)
 }

@@ -1,7 +1,7 @@
 // The machine of a script: a command is answered on RAM and a ledger that the caller lends.
 ghost use mathlib.Core.Path.{_≡_};
 ghost use mathlib.Core.Bool.{false};
-ghost use Rattle.script_machine.specs.Machine.{Kept, Executed};
+ghost use Rattle.script_machine.specs.Machine.{Machine-sound, Executed};
 use monitor_query::GuestKind;
 use script_language::Command;
 use walk::Answer;
@@ -11,43 +11,52 @@ mod questions;
 mod start;
 mod words;
 
+// The words of a ledger: its header with the guests, and a row for each frame.
+pub const HEADER_WORDS: u64 = 144;
+
+pub const ROW_WORDS: u64 = 16;
+
 // The machine that `setup` made: RAM is the first `frames` frames of the lent slice, from physical address `base`. No frames: none yet.
 // Ready: the ledger is what `setup` and the operations have made, and no `word` has hit a table since.
 pub struct Machine {
-    pub frames: u64,
     pub base: u64,
+    pub frames: u64,
     pub ready: bool,
 }
 
+// What a command answers, before it is text.
 pub enum Reply {
     Done,
     OutsideRam,
-    Code(u64),
+    Number(u64),
     Contents(u64),
     Walked(Answer),
     Frame(u64),
     Guest(GuestKind),
     Ledger,
-    NoLedger,
+    SetupNeeded,
 }
 
+// The machine after a command, and the reply.
 pub struct Outcome {
     pub machine: Machine,
     pub reply: Reply,
 }
 
+// Before the first `setup`.
 pub fn no_machine() -> Machine
     ensures { λ r. ⌜ (r .frames ≡ 0) × (r .base ≡ 0) × (r .ready ≡ false) ⌝ }
 {
     Machine {
-        frames: 0,
         base: 0,
+        frames: 0,
         ready: false,
     }
 }
 
+// Carries out a command.
 pub fn execute(c: Command, m: Machine, ram: &mut [u8], ledger: &mut [u32]) -> Outcome
-    requires { ⌜ Kept m (now ram) (now ledger) ⌝ }
+    requires { ⌜ Machine-sound m (now ram) (now ledger) ⌝ }
     ensures { λ r. ⌜ Executed c m (now (ram .entry)) (now (ledger .entry)) (now (ram .exit)) (now (ledger .exit)) r ⌝ }
 {
     match c {
@@ -56,11 +65,11 @@ pub fn execute(c: Command, m: Machine, ram: &mut [u8], ledger: &mut [u32]) -> Ou
             base,
             monitor,
         } => start::set_up(m, ram, ledger, frames, base, monitor),
-        Command::StoreWord { at, value } => words::store_word(m, ram, ledger, at, value),
+        Command::StoreWord { address, value } => words::store_word(m, ram, ledger, address, value),
         Command::Operate(o) => operations::operate(o, m, ram, ledger),
         Command::Ask(q) => Outcome {
             machine: m,
-            reply: questions::answer(q, m, ram, ledger),
+            reply: questions::reply_to(q, m, ram, ledger),
         },
     }
 }

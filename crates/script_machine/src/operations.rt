@@ -4,13 +4,16 @@ ghost use Rattle.ledger.specs.Sound.{Sound};
 ghost use Rattle.monitor.specs.Answers.{Answers};
 ghost use Rattle.script_language.specs.declared.Command.the-variants.{Operate};
 ghost use Rattle.script_machine.specs.Operations.{operation};
-ghost use Rattle.script_machine.specs.Machine.{Kept, Executed};
+ghost use Rattle.script_machine.specs.Machine.{Machine-sound, Executed};
+use super::HEADER_WORDS;
 use super::Machine;
 use super::Outcome;
+use super::ROW_WORDS;
 use super::Reply;
 use script_language::Operation;
 
-fn answer(o: Operation, ram: &mut [u8], ledger: &mut [u32]) -> u64
+// Calls the monitor.
+fn perform(o: Operation, ram: &mut [u8], ledger: &mut [u32]) -> u64
     requires { ⌜ Sound (now ram) (now ledger) ⌝ }
     ensures { λ k. ⌜ Answers (operation o) (now (ram .entry)) (now (ledger .entry)) k (now (ram .exit)) (now (ledger .exit)) ⌝ }
 {
@@ -25,16 +28,18 @@ fn answer(o: Operation, ram: &mut [u8], ledger: &mut [u32]) -> u64
         } => monitor::map(ram, ledger, frame, guest, address, rights),
         Operation::Unmap { address, guest } => monitor::unmap(ram, ledger, address, guest),
         Operation::Share {
-            guest,
+            owner,
             frame,
-            other,
+            with,
             writing,
-        } => monitor::share(ram, ledger, guest, frame, other, writing),
-        Operation::Unshare {
-            guest,
+        } => monitor::share(ram, ledger, owner, frame, with, writing),
+        Operation::Unshare { owner, frame, with } => monitor::unshare(
+            ram,
+            ledger,
+            owner,
             frame,
-            other,
-        } => monitor::unshare(ram, ledger, guest, frame, other),
+            with,
+        ),
         Operation::Take { frame, guest } => monitor::take(ram, ledger, frame, guest),
         Operation::Destroy { guest } => monitor::destroy(ram, ledger, guest),
         Operation::Invalidated { guest } => monitor::invalidated(ram, ledger, guest),
@@ -42,20 +47,20 @@ fn answer(o: Operation, ram: &mut [u8], ledger: &mut [u32]) -> u64
 }
 
 pub fn operate(o: Operation, m: Machine, ram: &mut [u8], ledger: &mut [u32]) -> Outcome
-    requires { ⌜ Kept m (now ram) (now ledger) ⌝ }
+    requires { ⌜ Machine-sound m (now ram) (now ledger) ⌝ }
     ensures { λ r. ⌜ Executed (Operate o) m (now (ram .entry)) (now (ledger .entry)) (now (ram .exit)) (now (ledger .exit)) r ⌝ }
 {
     if m.ready {
-        let n = (4096 * m.frames) as usize;
-        let w = (144 + 16 * m.frames) as usize;
-        let k = answer(o, &mut ram[..n], &mut ledger[..w]);
+        let n = (memory::FRAME_BYTES * m.frames) as usize;
+        let w = (HEADER_WORDS + ROW_WORDS * m.frames) as usize;
+        let k = perform(o, &mut ram[..n], &mut ledger[..w]);
         return Outcome {
             machine: m,
-            reply: Reply::Code(k),
+            reply: Reply::Number(k),
         };
     }
     Outcome {
         machine: m,
-        reply: Reply::NoLedger,
+        reply: Reply::SetupNeeded,
     }
 }

@@ -1,4 +1,4 @@
--- SCRIPT: what a walk prints.
+-- docs/SCRIPT.md: what a walk prints.
 use Prim.Native.Nat.{ℕ, _≤_}
 use mathlib.Core.Path.{_≡_}
 use mathlib.Core.List.{List, _++_}
@@ -11,23 +11,42 @@ use Rattle.script_print.specs.declared.answers.Text.{Text}
 use Rattle.script_text.specs.Text.{ascii}
 use Rattle.script_text.specs.Digits.{decimal-of, hex-of}
 
+-- The most bytes of a name, a fault, a fault of stage 2 during stage 1, the number of descriptors, a walk's answer.
+abbrev pub name-bytes : ℕ
+name-bytes = 20
+
+abbrev pub fault-bytes : ℕ
+fault-bytes = 74
+
+abbrev pub during-bytes : ℕ
+during-bytes = 116
+
+abbrev pub fetched-bytes : ℕ
+fetched-bytes = 29
+
+abbrev pub answer-bytes : ℕ
+answer-bytes = 145
+
 -- the first bytes of t are `text`
-pub record Says (t : Text) (text : List ℕ) : Type 0 where
-  pub short : t .length ≤ 20
+pub record Holds-text (t : Text) (text : List ℕ) : Type 0 where
+  pub short : t .length ≤ name-bytes
   pub there : t .length ≤ length (t .bytes)
   pub same : take (t .length) (t .bytes) ≡ text
 
-unfoldable pub text-of-kind : FaultKind → List ℕ
-text-of-kind WalkAbort = ascii "WALK_ABORT"
-text-of-kind Translation = ascii "TRANSLATION"
-text-of-kind NotModelled = ascii "NOT_MODELLED"
-text-of-kind AccessFlag = ascii "ACCESS_FLAG"
-text-of-kind Permission = ascii "PERMISSION"
+-- document 01, section 4: the faults
+unfoldable pub kind-text : FaultKind → List ℕ
+kind-text WalkAbort = ascii "WALK_ABORT"
+kind-text Translation = ascii "TRANSLATION"
+kind-text NotModelled = ascii "NOT_MODELLED"
+kind-text AccessFlag = ascii "ACCESS_FLAG"
+kind-text Permission = ascii "PERMISSION"
 
+-- "KIND stage S level L"
 unfoldable pub fault-text : FaultKind → ℕ → ℕ → List ℕ
 fault-text k stage level =
-    text-of-kind k ++ (ascii " stage " ++ decimal-of stage) ++ (ascii " level " ++ decimal-of level)
+    kind-text k ++ (ascii " stage " ++ decimal-of stage) ++ (ascii " level " ++ decimal-of level)
 
+-- a fault of stage 2 while stage 1 was at level `of`
 unfoldable pub during-text : FaultKind → ℕ → ℕ → List ℕ
 during-text k level of = fault-text k 2 level ++ (ascii " during stage 1 level " ++ decimal-of of)
 

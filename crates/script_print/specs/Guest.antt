@@ -1,4 +1,4 @@
--- SCRIPT: what `guest` prints.
+-- docs/SCRIPT.md: what `guest` prints.
 use mathlib.Core.Bool.{Bool, cond}
 use mathlib.Core.List.{List, [], _++_}
 use Prim.Native.Nat.{ℕ}
@@ -6,6 +6,13 @@ use Rattle.monitor_query.specs.declared.GuestKind.{GuestKind}
 use Rattle.monitor_query.specs.declared.GuestKind.the-variants.{Nobody, Absent, Present}
 use Rattle.script_text.specs.Text.{ascii}
 use Rattle.script_text.specs.Digits.{hex-of}
+
+-- The most bytes of what is printed.
+abbrev pub dirty-bytes : ℕ
+dirty-bytes = 6
+
+abbrev pub guest-bytes : ℕ
+guest-bytes = 35
 
 -- "then ` dirty` where it is"
 unfoldable pub dirty-text : Bool → List ℕ

@@ -2,31 +2,35 @@
 ghost use Prim.Native.Nat.{_+_, _≤_};
 ghost use lib.ListN.{length, take};
 ghost use Rattle.script_text.specs.Wrote.{Wrote};
-ghost use Rattle.script_print.specs.Answer.{Says, text-of-kind, fault-text, fetched-text, during-text, answer-text};
+ghost use Rattle.script_print.specs.Answer.{name-bytes, fault-bytes, during-bytes, fetched-bytes, answer-bytes, Holds-text, kind-text, fault-text, fetched-text, during-text, answer-text};
 use script_text::digits::put;
 use script_text::digits::put_field;
 use script_text::digits::put_hex;
 use walk::Answer;
 use walk::FaultKind;
 
-// A text of at most 20 bytes: the first ones.
+// The array of a short text, filled up with spaces.
+pub const NAME_BYTES: usize = 20;
+
+// A short text: the first `length` bytes.
 pub struct Text {
-    pub bytes: [u8; 20],
+    pub bytes: [u8; NAME_BYTES],
     pub length: usize,
 }
 
-const WALK_ABORT: [u8; 20] = *b"WALK_ABORT          ";
+const WALK_ABORT: [u8; NAME_BYTES] = *b"WALK_ABORT          ";
 
-const TRANSLATION: [u8; 20] = *b"TRANSLATION         ";
+const TRANSLATION: [u8; NAME_BYTES] = *b"TRANSLATION         ";
 
-const NOT_MODELLED: [u8; 20] = *b"NOT_MODELLED        ";
+const NOT_MODELLED: [u8; NAME_BYTES] = *b"NOT_MODELLED        ";
 
-const ACCESS_FLAG: [u8; 20] = *b"ACCESS_FLAG         ";
+const ACCESS_FLAG: [u8; NAME_BYTES] = *b"ACCESS_FLAG         ";
 
-const PERMISSION: [u8; 20] = *b"PERMISSION          ";
+const PERMISSION: [u8; NAME_BYTES] = *b"PERMISSION          ";
 
+// A fault by its name.
 fn kind_text(k: FaultKind) -> Text
-    ensures { λ r. ⌜ Says r (text-of-kind k) ⌝ }
+    ensures { λ r. ⌜ Holds-text r (kind-text k) ⌝ }
 {
     match k {
         FaultKind::WalkAbort => Text {
@@ -53,8 +57,8 @@ fn kind_text(k: FaultKind) -> Text
 }
 
 pub fn put_text(out: &mut [u8], at: usize, t: Text) -> usize
-    requires { ⌜ (at + 20 ≤ length (now out)) × (t .length ≤ 20) × (t .length ≤ length (t .bytes)) ⌝ }
-    ensures { λ r. ⌜ Wrote 20 (now (out .entry)) at (now (out .exit)) r (take (t .length) (t .bytes)) ⌝ }
+    requires { ⌜ (at + name-bytes ≤ length (now out)) × (t .length ≤ name-bytes) × (t .length ≤ length (t .bytes)) ⌝ }
+    ensures { λ r. ⌜ Wrote name-bytes (now (out .entry)) at (now (out .exit)) r (take (t .length) (t .bytes)) ⌝ }
 {
     let bytes = t.bytes;
     let n = t.length;
@@ -62,8 +66,8 @@ pub fn put_text(out: &mut [u8], at: usize, t: Text) -> usize
 }
 
 fn put_fault(out: &mut [u8], at: usize, k: FaultKind, stage: u64, level: u64) -> usize
-    requires { ⌜ at + 74 ≤ length (now out) ⌝ }
-    ensures { λ r. ⌜ Wrote 74 (now (out .entry)) at (now (out .exit)) r (fault-text k stage level) ⌝ }
+    requires { ⌜ at + fault-bytes ≤ length (now out) ⌝ }
+    ensures { λ r. ⌜ Wrote fault-bytes (now (out .entry)) at (now (out .exit)) r (fault-text k stage level) ⌝ }
 {
     let a = put_text(out, at, kind_text(k));
     let b = put_field(out, a, b" stage ", stage);
@@ -71,24 +75,24 @@ fn put_fault(out: &mut [u8], at: usize, k: FaultKind, stage: u64, level: u64) ->
 }
 
 fn put_fetched(out: &mut [u8], at: usize, fetched: u64) -> usize
-    requires { ⌜ at + 29 ≤ length (now out) ⌝ }
-    ensures { λ r. ⌜ Wrote 29 (now (out .entry)) at (now (out .exit)) r (fetched-text fetched) ⌝ }
+    requires { ⌜ at + fetched-bytes ≤ length (now out) ⌝ }
+    ensures { λ r. ⌜ Wrote fetched-bytes (now (out .entry)) at (now (out .exit)) r (fetched-text fetched) ⌝ }
 {
     put_field(out, at, b" fetched ", fetched)
 }
 
 // A fault of stage 2 while stage 1 was at level `of`.
 fn put_during(out: &mut [u8], at: usize, k: FaultKind, level: u64, of: u64) -> usize
-    requires { ⌜ at + 116 ≤ length (now out) ⌝ }
-    ensures { λ r. ⌜ Wrote 116 (now (out .entry)) at (now (out .exit)) r (during-text k level of) ⌝ }
+    requires { ⌜ at + during-bytes ≤ length (now out) ⌝ }
+    ensures { λ r. ⌜ Wrote during-bytes (now (out .entry)) at (now (out .exit)) r (during-text k level of) ⌝ }
 {
     let next = put_fault(out, at, k, 2, level);
     put_field(out, next, b" during stage 1 level ", of)
 }
 
 pub fn put_answer(out: &mut [u8], at: usize, a: Answer) -> usize
-    requires { ⌜ at + 145 ≤ length (now out) ⌝ }
-    ensures { λ r. ⌜ Wrote 145 (now (out .entry)) at (now (out .exit)) r (answer-text a) ⌝ }
+    requires { ⌜ at + answer-bytes ≤ length (now out) ⌝ }
+    ensures { λ r. ⌜ Wrote answer-bytes (now (out .entry)) at (now (out .exit)) r (answer-text a) ⌝ }
 {
     match a {
         Answer::Found { address, fetched } => {

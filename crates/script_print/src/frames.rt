@@ -2,11 +2,11 @@
 ghost use Prim.Native.Nat.{_+_, _*_, _<_, _≤_};
 ghost use lib.ListN.{length};
 ghost use Rattle.script_text.specs.Wrote.{Wrote};
-ghost use Rattle.model.specs.State.{guests};
+ghost use Rattle.script_text.specs.Digits.{most-digits};
 ghost use Rattle.ledger.specs.Layout.{size-of, state-of};
 ghost use Rattle.ledger.specs.Sound.{Sound};
 ghost use Rattle.monitor_query.specs.Questions.{share-told};
-ghost use Rattle.script_print.specs.Frame.{member-text, list-text, page-text, frame-text, line-text, ledger-text};
+ghost use Rattle.script_print.specs.Frame.{listed-guest-bytes, guest-list-bytes, frame-text-bytes, line-bytes, listed-guest-text, guest-list-text, page-text, frame-text, line-text, ledger-text};
 use ledger::header;
 use monitor_query::FrameKind;
 use monitor_query::shared_with;
@@ -16,9 +16,9 @@ use script_text::digits::put_decimal;
 use script_text::digits::put_field;
 
 // Guest g in a list; its number has one digit.
-fn put_member(out: &mut [u8], at: usize, first: bool, g: u64) -> usize
-    requires { ⌜ (at + 21 ≤ length (now out)) × (g < 10) ⌝ }
-    ensures { λ r. ⌜ Wrote 2 (now (out .entry)) at (now (out .exit)) r (member-text first g) ⌝ }
+fn put_listed_guest(out: &mut [u8], at: usize, first: bool, g: u64) -> usize
+    requires { ⌜ (at + (1 + most-digits) ≤ length (now out)) × (g < 10) ⌝ }
+    ensures { λ r. ⌜ Wrote listed-guest-bytes (now (out .entry)) at (now (out .exit)) r (listed-guest-text first g) ⌝ }
 {
     if first {
         return put_decimal(out, at, g);
@@ -26,11 +26,24 @@ fn put_member(out: &mut [u8], at: usize, first: bool, g: u64) -> usize
     put_field(out, at, b",", g)
 }
 
-// The guests that frame f is shared with: all of them where least is 1, those that may write where it is 2.
-fn put_list(out: &mut [u8], at: usize, ram: &[u8], ledger: &[u32], f: u64, least: u64) -> usize
+// What is shared of a frame with a guest: nothing, FOR_READING, or FOR_WRITING too.
+const FOR_READING: u64 = 1;
+
+const FOR_WRITING: u64 = 2;
+
+// The guests that as much as `least` of frame f is shared with.
+fn put_guest_list(
+    out: &mut [u8],
+    at: usize,
+    ram: &[u8],
+    ledger: &[u32],
+    f: u64,
+    least: u64,
+) -> usize
     requires { ⌜ Sound (now ram) (now ledger) ⌝ }
-    requires { ⌜ at + 2 * guests + 20 ≤ length (now out) ⌝ }
-    ensures { λ r. ⌜ Wrote (2 * guests) (now (out .entry)) at (now (out .exit)) r (list-text least (share-told (state-of (now (ram .entry)) (now (ledger .entry))) f)) ⌝ }
+    requires { ⌜ at + guest-list-bytes + most-digits ≤ length (now out) ⌝ }
+    ensures { λ r. ⌜ Wrote guest-list-bytes (now (out .entry)) at (now (out .exit)) r
+        (guest-list-text least (share-told (state-of (now (ram .entry)) (now (ledger .entry))) f)) ⌝ }
 {
     let mut next = at;
     let mut g: u64 = 0;
@@ -38,7 +51,7 @@ fn put_list(out: &mut [u8], at: usize, ram: &[u8], ledger: &[u32], f: u64, least
         g += 1;
         let share = shared_with(ram, ledger, f, g);
         if least <= share {
-            next = put_member(out, next, next == at, g);
+            next = put_listed_guest(out, next, next == at, g);
         }
     }
     if next == at {
@@ -47,6 +60,7 @@ fn put_list(out: &mut [u8], at: usize, ram: &[u8], ledger: &[u32], f: u64, least
     next
 }
 
+// What `frame` prints of a page.
 fn put_page(
     out: &mut [u8],
     at: usize,
@@ -57,22 +71,24 @@ fn put_page(
     mapped: u64,
 ) -> usize
     requires { ⌜ Sound (now ram) (now ledger) ⌝ }
-    requires { ⌜ at + 128 ≤ length (now out) ⌝ }
-    ensures { λ r. ⌜ Wrote 128 (now (out .entry)) at (now (out .exit)) r (page-text owner (share-told (state-of (now (ram .entry)) (now (ledger .entry))) f) mapped) ⌝ }
+    requires { ⌜ at + frame-text-bytes ≤ length (now out) ⌝ }
+    ensures { λ r. ⌜ Wrote frame-text-bytes (now (out .entry)) at (now (out .exit)) r
+        (page-text owner (share-told (state-of (now (ram .entry)) (now (ledger .entry))) f) mapped) ⌝ }
 {
     let owned = put_field(out, at, b"page ", owner);
     let readers = put(out, owned, b" readers ");
-    let read = put_list(out, readers, ram, ledger, f, 1);
+    let read = put_guest_list(out, readers, ram, ledger, f, FOR_READING);
     let writers = put(out, read, b" writers ");
-    let written = put_list(out, writers, ram, ledger, f, 2);
+    let written = put_guest_list(out, writers, ram, ledger, f, FOR_WRITING);
     put_field(out, written, b" mapped ", mapped)
 }
 
 // What `frame` prints.
 pub fn put_frame(out: &mut [u8], at: usize, ram: &[u8], ledger: &[u32], f: u64) -> usize
     requires { ⌜ Sound (now ram) (now ledger) ⌝ }
-    requires { ⌜ at + 128 ≤ length (now out) ⌝ }
-    ensures { λ r. ⌜ Wrote 128 (now (out .entry)) at (now (out .exit)) r (frame-text (state-of (now (ram .entry)) (now (ledger .entry))) f) ⌝ }
+    requires { ⌜ at + frame-text-bytes ≤ length (now out) ⌝ }
+    ensures { λ r. ⌜ Wrote frame-text-bytes (now (out .entry)) at (now (out .exit)) r
+        (frame-text (state-of (now (ram .entry)) (now (ledger .entry))) f) ⌝ }
 {
     match what_frame(ram, ledger, f) {
         FrameKind::Outside => put(out, at, b"4"),
@@ -84,10 +100,12 @@ pub fn put_frame(out: &mut [u8], at: usize, ram: &[u8], ledger: &[u32], f: u64) 
     }
 }
 
+// A line of `ledger`.
 fn put_line(out: &mut [u8], at: usize, ram: &[u8], ledger: &[u32], f: u64) -> usize
     requires { ⌜ Sound (now ram) (now ledger) ⌝ }
-    requires { ⌜ at + 160 ≤ length (now out) ⌝ }
-    ensures { λ r. ⌜ Wrote 160 (now (out .entry)) at (now (out .exit)) r (line-text (state-of (now (ram .entry)) (now (ledger .entry))) f) ⌝ }
+    requires { ⌜ at + line-bytes ≤ length (now out) ⌝ }
+    ensures { λ r. ⌜ Wrote line-bytes (now (out .entry)) at (now (out .exit)) r
+        (line-text (state-of (now (ram .entry)) (now (ledger .entry))) f) ⌝ }
 {
     let numbered = put_decimal(out, at, f);
     let next = put(out, numbered, b" ");
@@ -98,8 +116,9 @@ fn put_line(out: &mut [u8], at: usize, ram: &[u8], ledger: &[u32], f: u64) -> us
 // What `ledger` prints.
 pub fn put_ledger(out: &mut [u8], at: usize, ram: &[u8], ledger: &[u32]) -> usize
     requires { ⌜ Sound (now ram) (now ledger) ⌝ }
-    requires { ⌜ at + 160 * size-of (now ledger) ≤ length (now out) ⌝ }
-    ensures { λ r. ⌜ Wrote (160 * size-of (now (ledger .entry))) (now (out .entry)) at (now (out .exit)) r (ledger-text (state-of (now (ram .entry)) (now (ledger .entry)))) ⌝ }
+    requires { ⌜ at + line-bytes * size-of (now ledger) ≤ length (now out) ⌝ }
+    ensures { λ r. ⌜ Wrote (line-bytes * size-of (now (ledger .entry))) (now (out .entry)) at (now (out .exit)) r
+        (ledger-text (state-of (now (ram .entry)) (now (ledger .entry)))) ⌝ }
 {
     let n = header::size(ledger);
     let mut next = at;

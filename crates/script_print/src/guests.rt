@@ -2,14 +2,15 @@
 ghost use Prim.Native.Nat.{_+_, _≤_};
 ghost use lib.ListN.{length};
 ghost use Rattle.script_text.specs.Wrote.{Wrote};
-ghost use Rattle.script_print.specs.Guest.{dirty-text, guest-text};
+ghost use Rattle.script_print.specs.Guest.{dirty-bytes, guest-bytes, dirty-text, guest-text};
 use monitor_query::GuestKind;
 use script_text::digits::put;
 use script_text::digits::put_hex;
 
+// Nothing where a guest is not dirty.
 fn put_dirty(out: &mut [u8], at: usize, dirty: bool) -> usize
-    requires { ⌜ at + 6 ≤ length (now out) ⌝ }
-    ensures { λ r. ⌜ Wrote 6 (now (out .entry)) at (now (out .exit)) r (dirty-text dirty) ⌝ }
+    requires { ⌜ at + dirty-bytes ≤ length (now out) ⌝ }
+    ensures { λ r. ⌜ Wrote dirty-bytes (now (out .entry)) at (now (out .exit)) r (dirty-text dirty) ⌝ }
 {
     if dirty {
         return put(out, at, b" dirty");
@@ -19,8 +20,8 @@ fn put_dirty(out: &mut [u8], at: usize, dirty: bool) -> usize
 
 // What `guest` prints.
 pub fn put_guest(out: &mut [u8], at: usize, g: GuestKind) -> usize
-    requires { ⌜ at + 35 ≤ length (now out) ⌝ }
-    ensures { λ r. ⌜ Wrote 35 (now (out .entry)) at (now (out .exit)) r (guest-text g) ⌝ }
+    requires { ⌜ at + guest-bytes ≤ length (now out) ⌝ }
+    ensures { λ r. ⌜ Wrote guest-bytes (now (out .entry)) at (now (out .exit)) r (guest-text g) ⌝ }
 {
     match g {
         GuestKind::Nobody => put(out, at, b"1"),

@@ -1,4 +1,2 @@
--- Laws of the definitions, for the proofs of the code.
-mod Reading
-pub mod Scanning
-pub mod Printing
+-- Proofs of the functions of src/, each in its folder, and the laws that they use.
+pub mod Laws

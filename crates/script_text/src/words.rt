@@ -2,16 +2,22 @@
 ghost use mathlib.Core.Path.{_≡_};
 ghost use Prim.Native.Nat.{_≤_};
 ghost use lib.ListN.{length, take, drop};
-ghost use Rattle.script_text.specs.Words.{ending, text-of, textual, blank, text-byte, unblank, Ended, same-text};
+ghost use Rattle.script_text.specs.Words.{ends-text, text-of, is-text, is-blank, is-text-byte, after-blanks, Word-ends, same-text};
+
+const TAB: u8 = b'\t';
+
+const CARRIAGE_RETURN: u8 = b'\r';
+
+const DELETE: u8 = 127;
 
 // A comment ends the text, and so does a carriage return with nothing after it.
-fn is_ending(c: u8, left: usize) -> bool
-    ensures { λ r. ⌜ r ≡ ending c left ⌝ }
+fn ends_text(c: u8, left: usize) -> bool
+    ensures { λ r. ⌜ r ≡ ends-text c left ⌝ }
 {
     if c == b'#' {
         return true;
     }
-    if c == 13 {
+    if c == CARRIAGE_RETURN {
         return left == 0;
     }
     false
@@ -23,7 +29,7 @@ pub fn text_end(line: &[u8]) -> usize
 {
     let mut i = 0;
     while i < line.len() {
-        if is_ending(line[i], line.len() - 1 - i) {
+        if ends_text(line[i], line.len() - 1 - i) {
             return i;
         }
         i += 1;
@@ -31,20 +37,21 @@ pub fn text_end(line: &[u8]) -> usize
     i
 }
 
+// A character of ASCII that prints, or a blank.
 fn is_text_byte(c: u8) -> bool
-    ensures { λ r. ⌜ r ≡ text-byte c ⌝ }
+    ensures { λ r. ⌜ r ≡ is-text-byte c ⌝ }
 {
-    if c == 9 {
+    if c == TAB {
         return true;
     }
-    if c < 32 {
+    if c < b' ' {
         return false;
     }
-    c < 127
+    c < DELETE
 }
 
 pub fn is_text(s: &[u8]) -> bool
-    ensures { λ r. ⌜ r ≡ textual (now (s .entry)) ⌝ }
+    ensures { λ r. ⌜ r ≡ is-text (now (s .entry)) ⌝ }
 {
     let mut i = 0;
     while i < s.len() {
@@ -58,18 +65,18 @@ pub fn is_text(s: &[u8]) -> bool
 }
 
 fn is_blank(c: u8) -> bool
-    ensures { λ r. ⌜ r ≡ blank c ⌝ }
+    ensures { λ r. ⌜ r ≡ is-blank c ⌝ }
 {
     if c == b' ' {
         return true;
     }
-    c == 9
+    c == TAB
 }
 
 // The first place from `from` on that is no blank, or the end.
 pub fn word_start(s: &[u8], from: usize) -> usize
     requires { ⌜ from ≤ length (now s) ⌝ }
-    ensures { λ r. ⌜ (r ≤ length (now (s .entry))) × (drop r (now (s .entry)) ≡ unblank (drop from (now (s .entry)))) ⌝ }
+    ensures { λ r. ⌜ (r ≤ length (now (s .entry))) × (drop r (now (s .entry)) ≡ after-blanks (drop from (now (s .entry)))) ⌝ }
 {
     let mut i = from;
     while i < s.len() {
@@ -85,7 +92,7 @@ pub fn word_start(s: &[u8], from: usize) -> usize
 // The first place from `from` on that is a blank, or the end.
 pub fn word_end(s: &[u8], from: usize) -> usize
     requires { ⌜ from ≤ length (now s) ⌝ }
-    ensures { λ r. ⌜ Ended (now (s .entry)) from r ⌝ }
+    ensures { λ r. ⌜ Word-ends (now (s .entry)) from r ⌝ }
 {
     let mut i = from;
     while i < s.len() {
@@ -97,7 +104,7 @@ pub fn word_end(s: &[u8], from: usize) -> usize
     i
 }
 
-pub fn same(a: &[u8], b: &[u8]) -> bool
+pub fn same_text(a: &[u8], b: &[u8]) -> bool
     ensures { λ r. ⌜ r ≡ same-text (now (a .entry)) (now (b .entry)) ⌝ }
 {
     if a.len() != b.len() {

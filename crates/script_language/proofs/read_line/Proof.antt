@@ -1,7 +1,7 @@
 -- Written by tools/prove from the file answers beside it: edit that, and not this.
 -- By the definition's tests, in its order.
 use lib.Seq.{length-take-le}
-use Rattle.script_language.specs.Commands.{read-of}
+use Rattle.script_language.specs.Commands.{read-line}
 use borrow.Author.Needs.{needs}
 use mathlib.Core.Path.{sym}
 use borrow.Author.Tests.{lt-ltb, lt-leb, le-leb, le-ltb}
@@ -9,7 +9,7 @@ use Rattle.script_language.proofs.read_line.Statement.{statement}
 use Rattle.script_language.proofs.read_line.Tie as tie
 
 returns : tie.Need-returns
-unfolding read-of
+unfolding read-line
 returns c = simp (
   le-leb _ _ (c .if1 .taken),
   le-ltb _ _ (c .if1 .taken),
@@ -24,22 +24,22 @@ slice-aggregate-s c = sym (length-take-le (c .before .text-end .result) (c .befo
 is-text-requires : tie.Need-is-text-requires
 is-text-requires c κs = search needs
 
-read-text-requires : tie.Need-read-text-requires
-read-text-requires c κs = search needs
+read-words-requires : tie.Need-read-words-requires
+read-words-requires c κs = search needs
 
 returns-2 : tie.Need-returns-2
-unfolding read-of
+unfolding read-line
 returns-2 c = simp (
   lt-ltb _ _ (c .before .before .before .before .before .if1 .left),
   lt-leb _ _ (c .before .before .before .before .before .if1 .left),
   sym (c .before .before .before .before .text-end .ensures .1),
   sym (c .before .before .is-text .ensures),
   c .before .if2 .taken,
-  sym (c .read-text .ensures),
+  sym (c .read-words .ensures),
 )
 
 returns-3 : tie.Need-returns-3
-unfolding read-of
+unfolding read-line
 returns-3 c = simp (
   lt-ltb _ _ (c .before .before .before .before .if1 .left),
   lt-leb _ _ (c .before .before .before .before .if1 .left),
@@ -56,6 +56,6 @@ read-line-spec =
     text-end-requires
     slice-aggregate-s
     is-text-requires
-    read-text-requires
+    read-words-requires
     returns-2
     returns-3)

@@ -28,8 +28,8 @@ operate-requires c κs = search needs
 enum-known-c-4 : tie.Need-enum-known-c-4
 enum-known-c-4 c = search needs
 
-answer-requires : tie.Need-answer-requires
-answer-requires c κs = search needs
+reply-to-requires : tie.Need-reply-to-requires
+reply-to-requires c κs = search needs
 
 same-length : tie.Need-same-length
 same-length c = search needs
@@ -66,7 +66,7 @@ same-length-8 c = search needs
 
 returns-4 : tie.Need-returns-4
 returns-4 c = rw (c .before .before .before .before .c4 .given .1)
-    (record { does = (ap (λ (z : Reply). outcome (c .before .before .before .before .before .before .before .before .args .m) z) (c .answer .ensures), refl, refl); kept = c .before .before .before .before .before .before .before .before .pre })
+    (record { effect = (ap (λ (z : Reply). outcome (c .before .before .before .before .before .before .before .before .args .m) z) (c .reply-to .ensures), refl, refl); machine-sound = c .before .before .before .before .before .before .before .before .pre })
 
 pub execute-spec : {M : Type 1} → statement M
 execute-spec =
@@ -79,7 +79,7 @@ execute-spec =
     enum-known-c-3
     operate-requires
     enum-known-c-4
-    answer-requires
+    reply-to-requires
     same-length
     same-length-2
     returns

@@ -1,9 +1,9 @@
 -- Written by tools/prove from the file answers beside it: edit that, and not this.
 -- The slices have the machine's parts, and the ledger is one of the machine's frames.
 use mathlib.Core.Path.{refl}
-use Rattle.script_machine.specs.Laws.{ram-part, ledger-part, size-is}
-use Rattle.script.specs.Line.{reply-text}
-use Rattle.script_text.proofs.Printing.{wrote-within}
+use Rattle.script_machine.proofs.Laws.Parts.{ram-part, ledger-part, size-is}
+use Rattle.script.specs.Printed.{reply-text}
+use Rattle.script_text.proofs.Laws.Printing.{wrote-within}
 use borrow.Author.Needs.{needs}
 use native.Mathlib.Omega.{arith}
 use Rattle.script.proofs.print.put_whole_ledger.Statement.{statement}

@@ -1,6 +1,6 @@
 -- Written by tools/prove from the file answers beside it: edit that, and not this.
 -- By the place.
-use Rattle.script_language.proofs.Shapes.{number-at, access-at, level-at}
+use Rattle.script_language.proofs.Laws.Forms.{number-at, access-at, level-at}
 use native.Mathlib.Omega.{arith}
 use Rattle.script_language.proofs.arguments.form_of.Statement.{statement}
 use Rattle.script_language.proofs.arguments.form_of.Tie as tie

@@ -1,6 +1,6 @@
 -- Written by tools/prove from the file answers beside it: edit that, and not this.
 -- By the definition's cases.
-use Rattle.script_language.specs.Commands.{argument-of}
+use Rattle.script_language.specs.Commands.{read-argument}
 use borrow.Author.Needs.{needs}
 use mathlib.Core.Path.{sym}
 use Rattle.script_language.proofs.arguments.number_argument.Statement.{statement}
@@ -19,21 +19,21 @@ enum-told-2 : tie.Need-enum-told-2
 enum-told-2 c = search needs
 
 returns : tie.Need-returns
-unfolding argument-of
+unfolding read-argument
 returns c = simp (
   sym (c .before .before .before .number .ensures),
   c .before .v .given .1,
 )
 
 returns-2 : tie.Need-returns-2
-unfolding argument-of
+unfolding read-argument
 returns-2 c = simp (
   sym (c .before .before .number .ensures),
   c .enum-told .given .1,
 )
 
 returns-3 : tie.Need-returns-3
-unfolding argument-of
+unfolding read-argument
 returns-3 c = simp (
   sym (c .before .before .number .ensures),
   c .enum-told2 .given .1,

@@ -1,9 +1,9 @@
 -- Written by tools/prove from the file answers beside it: edit that, and not this.
 -- The slices have the machine's parts, and the ledger's base is the machine's.
 use mathlib.Core.Path.{_∙_}
-use Rattle.script_machine.specs.Laws.{ram-part, ledger-part}
-use Rattle.script_machine.proofs.Laws.{told-so}
-use Rattle.script_machine.proofs.Based.{translated-so}
+use Rattle.script_machine.proofs.Laws.Parts.{ram-part, ledger-part}
+use Rattle.script_machine.proofs.Laws.Effects.{if-ready-so}
+use Rattle.script_machine.proofs.Laws.Based.{translated-so}
 use borrow.Author.Needs.{needs}
 use Rattle.script_machine.proofs.questions.translate.Statement.{statement}
 use Rattle.script_machine.proofs.questions.translate.Tie as tie
@@ -27,7 +27,7 @@ translation-requires : tie.Need-translation-requires
 translation-requires c κs = c .before .before .before .before .before .before .before .pre .sound (c .before .before .before .before .if1 .taken)
 
 returns : tie.Need-returns
-returns c = told-so (c .before .before .before .before .before .before .before .before .args .m) _ _ (c .before .before .before .before .before .if1 .taken) (c .translation .ensures ∙ translated-so (c .before .before .before .before .before .before .before .before .pre) (c .before .before .before .before .before .if1 .taken) _ _ _)
+returns c = if-ready-so (c .before .before .before .before .before .before .before .before .args .m) _ _ (c .before .before .before .before .before .if1 .taken) (c .translation .ensures ∙ translated-so (c .before .before .before .before .before .before .before .before .pre) (c .before .before .before .before .before .if1 .taken) _ _ _)
 
 returns-2 : tie.Need-returns-2
 returns-2 c = search needs

@@ -2,6 +2,7 @@
 -- The slice has the machine's RAM.
 use Prim.Native.Nat.{_*_}
 use lib.Seq.{length-take-le}
+use Rattle.script_machine.specs.Machine.{frame-bytes}
 use borrow.Author.Needs.{needs}
 use mathlib.Core.Path.{sym}
 use Rattle.script_machine.proofs.questions.walk_both.Statement.{statement}
@@ -11,7 +12,7 @@ mul-n : tie.Need-mul-n
 mul-n c = search needs
 
 slice-aggregate-both-stages : tie.Need-slice-aggregate-both-stages
-slice-aggregate-both-stages c = sym (length-take-le (4096 * c .before .before .before .args .m .frames) (c .before .before .before .args .ram .now) (c .before .before .before .pre))
+slice-aggregate-both-stages c = sym (length-take-le (frame-bytes * c .before .before .before .args .m .frames) (c .before .before .before .args .ram .now) (c .before .before .before .pre))
 
 both-stages-requires : tie.Need-both-stages-requires
 both-stages-requires c κs = search needs

@@ -2,8 +2,8 @@
 -- The slices have the machine's parts.
 use mathlib.Core.Path.{ap}
 use Rattle.script_machine.specs.declared.Reply.the-variants.{Guest}
-use Rattle.script_machine.specs.Laws.{ram-part, ledger-part}
-use Rattle.script_machine.proofs.Laws.{told-so}
+use Rattle.script_machine.proofs.Laws.Parts.{ram-part, ledger-part}
+use Rattle.script_machine.proofs.Laws.Effects.{if-ready-so}
 use borrow.Author.Needs.{needs}
 use Rattle.script_machine.proofs.questions.what_guest.Statement.{statement}
 use Rattle.script_machine.proofs.questions.what_guest.Tie as tie
@@ -27,7 +27,7 @@ what-guest-requires : tie.Need-what-guest-requires
 what-guest-requires c κs = c .before .before .before .before .before .before .before .pre .sound (c .before .before .before .before .if1 .taken)
 
 returns : tie.Need-returns
-returns c = told-so (c .before .before .before .before .before .before .before .before .args .m) _ _ (c .before .before .before .before .before .if1 .taken) (ap Guest (c .what-guest .ensures))
+returns c = if-ready-so (c .before .before .before .before .before .before .before .before .args .m) _ _ (c .before .before .before .before .before .if1 .taken) (ap Guest (c .what-guest .ensures))
 
 returns-2 : tie.Need-returns-2
 returns-2 c = search needs

@@ -1,6 +1,6 @@
 -- Written by tools/prove from the file answers beside it: edit that, and not this.
 -- By the number of what the frame is.
-use Rattle.script_machine.proofs.Laws.{in-use, drains}
+use Rattle.script_machine.proofs.Laws.Effects.{in-use, drains}
 use borrow.Author.Needs.{needs}
 use Rattle.script_machine.proofs.words.holds_table.Statement.{statement}
 use Rattle.script_machine.proofs.words.holds_table.Tie as tie

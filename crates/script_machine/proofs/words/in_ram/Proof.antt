@@ -1,7 +1,7 @@
 -- Written by tools/prove from the file answers beside it: edit that, and not this.
 -- By the definition's tests.
 use Prim.Native.Nat.{_+_, _*_, _<_, _≤_}
-use Rattle.script_machine.specs.Machine.{word-in-ram}
+use Rattle.script_machine.specs.Machine.{frame-bytes, word-bytes, word-in-ram}
 use borrow.Author.Needs.{needs}
 use native.Mathlib.Omega.{arith}
 use borrow.Author.Tests.{lt-ltb, lt-leb, le-leb, le-ltb}
@@ -20,7 +20,7 @@ returns c = simp (
 
 returns-2 : tie.Need-returns-2
 unfolding word-in-ram
-returns-2 c = let h : c .before .before .before .before .args .m .base + 4096 * c .before .before .before .before .args .m .frames < c .before .before .before .before .args .a + 8 = omega arith in
+returns-2 c = let h : c .before .before .before .before .args .m .base + frame-bytes * c .before .before .before .before .args .m .frames < c .before .before .before .before .args .a + word-bytes = omega arith in
     simp (
       le-leb _ _ (c .before .if1 .left),
       le-ltb _ _ (c .before .if1 .left),
@@ -31,7 +31,7 @@ returns-2 c = let h : c .before .before .before .before .args .m .base + 4096 * 
 
 returns-3 : tie.Need-returns-3
 unfolding word-in-ram
-returns-3 c = let h : c .before .before .before .before .before .before .args .m .base + 4096 * c .before .before .before .before .before .before .args .m .frames < c .before .before .before .before .before .before .args .a + 8 = omega arith in
+returns-3 c = let h : c .before .before .before .before .before .before .args .m .base + frame-bytes * c .before .before .before .before .before .before .args .m .frames < c .before .before .before .before .before .before .args .a + word-bytes = omega arith in
     simp (
       le-leb _ _ (c .before .before .before .if1 .left),
       le-ltb _ _ (c .before .before .before .if1 .left),
@@ -44,7 +44,7 @@ returns-3 c = let h : c .before .before .before .before .before .before .args .m
 
 returns-4 : tie.Need-returns-4
 unfolding word-in-ram
-returns-4 c = let h : c .before .before .before .before .before .before .args .a + 8 ≤ c .before .before .before .before .before .before .args .m .base + 4096 * c .before .before .before .before .before .before .args .m .frames = omega arith in
+returns-4 c = let h : c .before .before .before .before .before .before .args .a + word-bytes ≤ c .before .before .before .before .before .before .args .m .base + frame-bytes * c .before .before .before .before .before .before .args .m .frames = omega arith in
     simp (
       le-leb _ _ (c .before .before .before .if1 .left),
       le-ltb _ _ (c .before .before .before .if1 .left),

@@ -11,6 +11,9 @@ holds-table-requires c κs = search needs
 returns : tie.Need-returns
 returns c = rw (sym (c .before .holds-table .ensures) ∙ c .if1 .taken)
 
+sub-holds-table : tie.Need-sub-holds-table
+sub-holds-table c = search needs
+
 add-holds-table : tie.Need-add-holds-table
 add-holds-table c = search needs
 
@@ -26,6 +29,7 @@ in-table-spec =
     (tie.spec
     holds-table-requires
     returns
+    sub-holds-table
     add-holds-table
     holds-table-requires-2
     returns-2)

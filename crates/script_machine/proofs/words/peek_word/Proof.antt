@@ -1,7 +1,7 @@
 -- Written by tools/prove from the file answers beside it: edit that, and not this.
 -- A word inside of RAM is at its place of the slice.
 use mathlib.Core.Path.{_∙_, sym}
-use Rattle.script_machine.proofs.Laws.{place}
+use Rattle.script_machine.proofs.Laws.Effects.{place}
 use borrow.Author.Needs.{needs}
 use native.Mathlib.Omega.{arith}
 use Rattle.script_machine.proofs.words.peek_word.Statement.{statement}

@@ -2,8 +2,8 @@
 -- The slice has the machine's ledger, and the word is in RAM.
 use mathlib.Core.Path.{_∙_, sym}
 use Rattle.script_machine.specs.Machine.{word-in-table}
-use Rattle.script_machine.specs.Laws.{size-is, ledger-part}
-use Rattle.script_machine.proofs.Laws.{place}
+use Rattle.script_machine.proofs.Laws.Parts.{size-is, ledger-part}
+use Rattle.script_machine.proofs.Laws.Effects.{place}
 use borrow.Author.Needs.{needs}
 use native.Mathlib.Omega.{arith}
 use Rattle.script_machine.proofs.words.stays_ready.Statement.{statement}

@@ -1,7 +1,7 @@
 -- Written by tools/prove from the file answers beside it: edit that, and not this.
 -- A word inside of RAM is at its place of the slice.
 use mathlib.Core.Path.{_∙_, refl, sym}
-use Rattle.script_machine.proofs.Laws.{place, written}
+use Rattle.script_machine.proofs.Laws.Effects.{place, written}
 use borrow.Author.Needs.{needs}
 use native.Mathlib.Omega.{arith}
 use Rattle.script_machine.proofs.words.store_word.Statement.{statement}
@@ -26,7 +26,7 @@ returns : tie.Need-returns
 returns c = rw (c .before .before .store-word .ensures) (written _ _ _ (c .before .before .before .before .before .before .before .before .before .before .before .pre) _ ((sym (c .before .before .before .before .before .before .before .before .in-ram .ensures) ∙ c .before .before .before .before .before .before .before .if1 .taken)) _ _ (c .before .before .before .before .before .stays-ready .ensures))
 
 returns-2 : tie.Need-returns-2
-returns-2 c = record { does = rw (sym (c .before .in-ram .ensures) ∙ c .if1 .left) (refl, refl, refl); kept = c .before .before .before .before .pre }
+returns-2 c = record { effect = rw (sym (c .before .in-ram .ensures) ∙ c .if1 .left) (refl, refl, refl); machine-sound = c .before .before .before .before .pre }
 
 pub store-word-spec : {M : Type 1} → statement M
 store-word-spec =

@@ -1,7 +1,7 @@
 -- Written by tools/prove from the file answers beside it: edit that, and not this.
 -- Part after part.
 use Rattle.script_print.specs.Answer.{during-text}
-use Rattle.script_text.proofs.Printing.{wrote-then}
+use Rattle.script_text.proofs.Laws.Printing.{wrote-then}
 use borrow.Author.Needs.{needs}
 use Rattle.script_print.proofs.answers.put_during.Statement.{statement}
 use Rattle.script_print.proofs.answers.put_during.Tie as tie

@@ -1,8 +1,8 @@
 -- Written by tools/prove from the file answers beside it: edit that, and not this.
 -- The kind, the stage and the level.
 use mathlib.Core.Path.{_∙_}
-use Rattle.script_print.specs.Answer.{fault-text}
-use Rattle.script_text.proofs.Printing.{wrote-then, wrote-within}
+use Rattle.script_print.specs.Answer.{name-bytes, fault-text}
+use Rattle.script_text.proofs.Laws.Printing.{wrote-then, wrote-within}
 use borrow.Author.Needs.{needs}
 use native.Mathlib.Omega.{arith}
 use Rattle.script_print.proofs.answers.put_fault.Statement.{statement}
@@ -31,7 +31,9 @@ same-length c = search needs
 
 returns : tie.Need-returns
 unfolding fault-text
-returns c = wrote-then (wrote-then (wrote-within {b = 20} (c .before .before .before .before .before .before .before .before .before .before .before .before .put-text .ensures) (omega arith) (c .before .before .before .before .before .before .before .before .before .before .before .before .before .kind-text .ensures .same)) (c .before .before .before .before .before .before .before .put-field .ensures)) (c .before .before .put-field2 .ensures)
+returns c = wrote-then
+    (wrote-then (wrote-within {b = name-bytes} (c .before .before .before .before .before .before .before .before .before .before .before .before .put-text .ensures) (omega arith) (c .before .before .before .before .before .before .before .before .before .before .before .before .before .kind-text .ensures .same)) (c .before .before .before .before .before .before .before .put-field .ensures))
+    (c .before .before .put-field2 .ensures)
 
 pub put-fault-spec : {M : Type 1} → statement M
 put-fault-spec =

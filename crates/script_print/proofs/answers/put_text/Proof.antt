@@ -2,7 +2,7 @@
 -- The part is in the array.
 use mathlib.Core.Path.{refl, sym}
 use lib.Seq.{length-take-le}
-use Rattle.script_text.proofs.Printing.{wrote-within, take-short}
+use Rattle.script_text.proofs.Laws.Printing.{wrote-within, take-short}
 use borrow.Author.Needs.{needs}
 use native.Mathlib.Omega.{arith}
 use Rattle.script_print.proofs.answers.put_text.Statement.{statement}

@@ -1,8 +1,8 @@
 -- Written by tools/prove from the file answers beside it: edit that, and not this.
 -- By what the frame is.
 use mathlib.Core.Path.{_∙_, sym}
-use Rattle.script_print.specs.Frame.{told-text, frame-text}
-use Rattle.script_text.proofs.Printing.{wrote-within}
+use Rattle.script_print.specs.Frame.{frame-kind-text, frame-text}
+use Rattle.script_text.proofs.Laws.Printing.{wrote-within}
 use borrow.Author.Needs.{needs}
 use native.Mathlib.Omega.{arith}
 use Rattle.script_print.proofs.frames.put_frame.Statement.{statement}
@@ -66,42 +66,42 @@ same-length : tie.Need-same-length
 same-length c = search needs
 
 returns : tie.Need-returns
-unfolding frame-text told-text
+unfolding frame-text frame-kind-text
 returns c = wrote-within (c .before .before .put .ensures) (omega arith) (rw (sym (c .before .before .before .before .before .before .before .what-frame .ensures), c .before .before .before .before .before .enum-told .given .1))
 
 same-length-2 : tie.Need-same-length-2
 same-length-2 c = search needs
 
 returns-2 : tie.Need-returns-2
-unfolding frame-text told-text
+unfolding frame-text frame-kind-text
 returns-2 c = wrote-within (c .before .before .put2 .ensures) (omega arith) (rw (sym (c .before .before .before .before .before .before .before .what-frame .ensures), c .before .before .before .before .before .enum-told2 .given .1))
 
 same-length-3 : tie.Need-same-length-3
 same-length-3 c = search needs
 
 returns-3 : tie.Need-returns-3
-unfolding frame-text told-text
+unfolding frame-text frame-kind-text
 returns-3 c = wrote-within (c .before .before .put3 .ensures) (omega arith) (rw (sym (c .before .before .before .before .before .before .before .what-frame .ensures), c .before .before .before .before .before .enum-told3 .given .1))
 
 same-length-4 : tie.Need-same-length-4
 same-length-4 c = search needs
 
 returns-4 : tie.Need-returns-4
-unfolding frame-text told-text
+unfolding frame-text frame-kind-text
 returns-4 c = wrote-within (c .before .before .put-field .ensures) (omega arith) (rw (sym (c .before .before .before .before .before .before .before .before .what-frame .ensures), c .before .before .before .before .before .before .g .given .1))
 
 same-length-5 : tie.Need-same-length-5
 same-length-5 c = search needs
 
 returns-5 : tie.Need-returns-5
-unfolding frame-text told-text
+unfolding frame-text frame-kind-text
 returns-5 c = wrote-within (c .before .before .put-field2 .ensures) (omega arith) (rw (sym (c .before .before .before .before .before .before .before .before .what-frame .ensures), c .before .before .before .before .before .before .g2 .given .1))
 
 same-length-6 : tie.Need-same-length-6
 same-length-6 c = search needs
 
 returns-6 : tie.Need-returns-6
-unfolding frame-text told-text
+unfolding frame-text frame-kind-text
 returns-6 c = wrote-within (c .before .before .put-page .ensures) (omega arith) (rw (sym (c .before .before .before .before .before .before .before .what-frame .ensures), c .before .before .before .before .before .owner .given .1))
 
 pub put-frame-spec : {M : Type 1} → statement M

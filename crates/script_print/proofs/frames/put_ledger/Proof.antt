@@ -5,14 +5,15 @@ use mathlib.Core.Path.{_≡_, refl}
 use lib.ListN.{length}
 use Rattle.script_text.specs.Wrote.{Wrote}
 use Rattle.ledger.specs.Layout.{state-of, state-in}
-use Rattle.script_print.specs.Frame.{lines-to}
-use Rattle.script_print.proofs.Listing.{lines-none, lines-more, lines-all}
+use Rattle.script_print.specs.Frame.{line-bytes, lines-to}
+use Rattle.script_print.proofs.Laws.Listing.{lines-none, lines-more, lines-all}
 use native.Mathlib.Omega.{arith}
 use Rattle.script_print.proofs.frames.put_ledger.Statement.{statement}
 use Rattle.script_print.proofs.frames.put_ledger.Tie as tie
 
 abbrev Inv-loop : tie.InvT-loop
-Inv-loop out₀ at ram ledger n next₀ f₀ out next f = (f ≤ n) × (length out ≡ length out₀) × Wrote (160 * f) out₀ at out next (lines-to (state-of ram ledger) f)
+Inv-loop out₀ at ram ledger n next₀ f₀ out next f =
+    (f ≤ n) × (length out ≡ length out₀) × Wrote (line-bytes * f) out₀ at out next (lines-to (state-of ram ledger) f)
 
 abbrev μ-loop : tie.MeasureT-loop
 μ-loop out₀ at ram ledger n next₀ f₀ out next f = n - f
@@ -33,7 +34,11 @@ loop-less : tie.Need-loop-less Inv-loop μ-loop
 loop-less c = omega arith
 
 loop-again : tie.Need-loop-again Inv-loop μ-loop
-loop-again c = (omega arith, omega (arith, c .before .before .put-line .kept, c .before .before .before .before .before .loop .inv .1), lines-more ((state-of (c .before .before .before .before .before .before .before .before .before .before .args .ram .now) (c .before .before .before .before .before .before .before .before .before .before .args .ledger .now))) (c .before .before .before .before .before .loop .f) (c .before .before .before .before .before .loop .inv .2) (c .before .before .put-line .ensures))
+loop-again c = (
+  omega arith,
+  omega (arith, c .before .before .put-line .kept, c .before .before .before .before .before .loop .inv .1),
+  lines-more ((state-of (c .before .before .before .before .before .before .before .before .before .before .args .ram .now) (c .before .before .before .before .before .before .before .before .before .before .args .ledger .now))) (c .before .before .before .before .before .loop .f) (c .before .before .before .before .before .loop .inv .2) (c .before .before .put-line .ensures),
+)
 
 same-length : tie.Need-same-length Inv-loop μ-loop
 same-length c = c .before .loop .inv .1

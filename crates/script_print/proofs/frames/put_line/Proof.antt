@@ -2,7 +2,7 @@
 -- Part after part, and the line's end.
 use mathlib.Core.Path.{refl}
 use Rattle.script_print.specs.Frame.{line-text}
-use Rattle.script_text.proofs.Printing.{wrote-then, wrote-within}
+use Rattle.script_text.proofs.Laws.Printing.{wrote-then, wrote-within}
 use borrow.Author.Needs.{needs}
 use native.Mathlib.Omega.{arith}
 use Rattle.script_print.proofs.frames.put_line.Statement.{statement}
@@ -31,7 +31,9 @@ same-length c = search needs
 
 returns : tie.Need-returns
 unfolding line-text
-returns c = wrote-within (wrote-then (wrote-then (wrote-then (c .before .before .before .before .before .before .before .before .before .before .before .before .before .before .before .before .put-decimal .ensures) (c .before .before .before .before .before .before .before .before .before .before .before .put .ensures)) (c .before .before .before .before .before .before .before .put-frame .ensures)) (c .before .before .put2 .ensures)) (omega arith) refl
+returns c = wrote-within
+    (wrote-then (wrote-then (wrote-then (c .before .before .before .before .before .before .before .before .before .before .before .before .before .before .before .before .put-decimal .ensures) (c .before .before .before .before .before .before .before .before .before .before .before .put .ensures)) (c .before .before .before .before .before .before .before .put-frame .ensures)) (c .before .before .put2 .ensures))
+    (omega arith) refl
 
 pub put-line-spec : {M : Type 1} → statement M
 put-line-spec =

@@ -2,7 +2,7 @@
 -- Part after part.
 use mathlib.Core.Path.{refl}
 use Rattle.script_print.specs.Frame.{page-text}
-use Rattle.script_text.proofs.Printing.{wrote-then, wrote-within}
+use Rattle.script_text.proofs.Laws.Printing.{wrote-then, wrote-within}
 use borrow.Author.Needs.{needs}
 use native.Mathlib.Omega.{arith}
 use Rattle.script_print.proofs.frames.put_page.Statement.{statement}
@@ -20,8 +20,8 @@ slice-aggregate-put c = search needs
 put-requires : tie.Need-put-requires
 put-requires c κs = search needs
 
-put-list-requires : tie.Need-put-list-requires
-put-list-requires c κs = search needs
+put-guest-list-requires : tie.Need-put-guest-list-requires
+put-guest-list-requires c κs = search needs
 
 slice-aggregate-put-2 : tie.Need-slice-aggregate-put-2
 slice-aggregate-put-2 c = search needs
@@ -29,21 +29,29 @@ slice-aggregate-put-2 c = search needs
 put-requires-2 : tie.Need-put-requires-2
 put-requires-2 c κs = search needs
 
-put-list-requires-2 : tie.Need-put-list-requires-2
-put-list-requires-2 c κs = search needs
+put-guest-list-requires-2 : tie.Need-put-guest-list-requires-2
+put-guest-list-requires-2 c κs = search needs
 
 slice-aggregate-put-field-2 : tie.Need-slice-aggregate-put-field-2
 slice-aggregate-put-field-2 c = search needs
 
 put-field-requires-2 : tie.Need-put-field-requires-2
-put-field-requires-2 c κs = omega (arith, c .before .before .before .before .before .before .before .before .before .before .before .before .before .before .before .before .before .before .before .before .before .before .before .before .before .before .before .before .pre .1, c .before .before .before .before .before .before .before .before .before .before .before .before .before .before .before .before .before .before .before .before .before .before .put-field .ensures .near, c .before .before .before .before .before .before .before .before .before .before .before .before .before .before .before .before .before .put .ensures .near, c .before .before .before .before .before .before .before .before .before .before .before .before .before .put-list .ensures .near, c .before .before .before .before .before .before .before .before .put2 .ensures .near, c .before .before .before .before .put-list2 .ensures .near)
+put-field-requires-2 c κs = omega (
+  arith,
+  c .before .before .before .before .before .before .before .before .before .before .before .before .before .before .before .before .before .before .before .before .before .before .before .before .before .before .before .before .pre .1,
+  c .before .before .before .before .before .before .before .before .before .before .before .before .before .before .before .before .before .before .before .before .before .before .put-field .ensures .near,
+  c .before .before .before .before .before .before .before .before .before .before .before .before .before .before .before .before .before .put .ensures .near,
+  c .before .before .before .before .before .before .before .before .before .before .before .before .before .put-guest-list .ensures .near,
+  c .before .before .before .before .before .before .before .before .put2 .ensures .near,
+  c .before .before .before .before .put-guest-list2 .ensures .near,
+)
 
 same-length : tie.Need-same-length
 same-length c = search needs
 
 returns : tie.Need-returns
 unfolding page-text
-returns c = wrote-within (wrote-then (wrote-then (wrote-then (wrote-then (wrote-then (c .before .before .before .before .before .before .before .before .before .before .before .before .before .before .before .before .before .before .before .before .before .before .before .before .before .put-field .ensures) (c .before .before .before .before .before .before .before .before .before .before .before .before .before .before .before .before .before .before .before .before .put .ensures)) (c .before .before .before .before .before .before .before .before .before .before .before .before .before .before .before .before .put-list .ensures)) (c .before .before .before .before .before .before .before .before .before .before .before .put2 .ensures)) (c .before .before .before .before .before .before .before .put-list2 .ensures)) (c .before .before .put-field2 .ensures)) (omega arith) refl
+returns c = wrote-within (wrote-then ((wrote-then (wrote-then ((wrote-then (wrote-then (c .before .before .before .before .before .before .before .before .before .before .before .before .before .before .before .before .before .before .before .before .before .before .before .before .before .put-field .ensures) (c .before .before .before .before .before .before .before .before .before .before .before .before .before .before .before .before .before .before .before .before .put .ensures)) (c .before .before .before .before .before .before .before .before .before .before .before .before .before .before .before .before .put-guest-list .ensures))) (c .before .before .before .before .before .before .before .before .before .before .before .put2 .ensures)) (c .before .before .before .before .before .before .before .put-guest-list2 .ensures))) (c .before .before .put-field2 .ensures)) (omega arith) refl
 
 pub put-page-spec : {M : Type 1} → statement M
 put-page-spec =
@@ -53,10 +61,10 @@ put-page-spec =
     put-field-requires
     slice-aggregate-put
     put-requires
-    put-list-requires
+    put-guest-list-requires
     slice-aggregate-put-2
     put-requires-2
-    put-list-requires-2
+    put-guest-list-requires-2
     slice-aggregate-put-field-2
     put-field-requires-2
     same-length

@@ -1,8 +1,8 @@
 -- Written by tools/prove from the file answers beside it: edit that, and not this.
 -- The word, or nothing.
-use Rattle.script_print.specs.Guest.{dirty-text}
-use Rattle.script_print.proofs.Listing.{wrote-nothing}
-use Rattle.script_text.proofs.Printing.{wrote-within}
+use Rattle.script_print.specs.Guest.{dirty-bytes, dirty-text}
+use Rattle.script_print.proofs.Laws.Listing.{wrote-nothing}
+use Rattle.script_text.proofs.Laws.Printing.{wrote-within}
 use borrow.Author.Needs.{needs}
 use native.Mathlib.Omega.{arith}
 use Rattle.script_print.proofs.guests.put_dirty.Statement.{statement}
@@ -23,7 +23,7 @@ returns c = wrote-within (c .before .before .put .ensures) (omega arith) (rw (c 
 
 returns-2 : tie.Need-returns-2
 unfolding dirty-text
-returns-2 c = wrote-within {a = 6} wrote-nothing (omega arith) (rw (c .if1 .left))
+returns-2 c = wrote-within {a = dirty-bytes} wrote-nothing (omega arith) (rw (c .if1 .left))
 
 pub put-dirty-spec : {M : Type 1} → statement M
 put-dirty-spec = tie.close (tie.spec slice-aggregate-put put-requires same-length returns returns-2)

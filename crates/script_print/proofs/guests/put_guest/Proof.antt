@@ -1,7 +1,7 @@
 -- Written by tools/prove from the file answers beside it: edit that, and not this.
 -- Part after part.
 use Rattle.script_print.specs.Guest.{guest-text}
-use Rattle.script_text.proofs.Printing.{wrote-then, wrote-within}
+use Rattle.script_text.proofs.Laws.Printing.{wrote-then, wrote-within}
 use borrow.Author.Needs.{needs}
 use native.Mathlib.Omega.{arith}
 use Rattle.script_print.proofs.guests.put_guest.Statement.{statement}
@@ -62,7 +62,8 @@ same-length-3 c = search needs
 
 returns-3 : tie.Need-returns-3
 unfolding guest-text
-returns-3 c = wrote-within (wrote-then (wrote-then (c .before .before .before .before .before .before .before .before .before .before .put3 .ensures) (c .before .before .before .before .before .before .put-hex .ensures)) (c .before .before .put-dirty2 .ensures)) (omega arith) (rw (c .before .before .before .before .before .before .before .before .before .before .before .before .before .before .g2 .given .1))
+returns-3 c = wrote-within (wrote-then (wrote-then (c .before .before .before .before .before .before .before .before .before .before .put3 .ensures) (c .before .before .before .before .before .before .put-hex .ensures)) (c .before .before .put-dirty2 .ensures))
+    (omega arith) (rw (c .before .before .before .before .before .before .before .before .before .before .before .before .before .before .g2 .given .1))
 
 pub put-guest-spec : {M : Type 1} → statement M
 put-guest-spec =

@@ -4,7 +4,7 @@ use Prim.Native.Nat.{_+_, _≤_, _-_}
 use mathlib.Core.Path.{_≡_, refl, _∙_}
 use mathlib.Core.List.{_++_}
 use lib.ListN.{length, length-set, take}
-use Rattle.script_text.proofs.Printing.{put-none, put-more, put-all}
+use Rattle.script_text.proofs.Laws.Printing.{put-none, put-more, put-all}
 use borrow.Author.Needs.{needs}
 use native.Mathlib.Omega.{arith}
 use Rattle.script_text.proofs.digits.put.Statement.{statement}

@@ -1,6 +1,6 @@
 -- Written by tools/prove from the file answers beside it: edit that, and not this.
 -- The label, and then the number.
-use Rattle.script_text.proofs.Printing.{wrote-then}
+use Rattle.script_text.proofs.Laws.Printing.{wrote-then}
 use borrow.Author.Needs.{needs}
 use Rattle.script_text.proofs.digits.put_field.Statement.{statement}
 use Rattle.script_text.proofs.digits.put_field.Tie as tie

@@ -1,7 +1,7 @@
 -- Written by tools/prove from the file answers beside it: edit that, and not this.
 -- 0x, and then the number in base 16.
 use Rattle.script_text.specs.Digits.{hex-of}
-use Rattle.script_text.proofs.Printing.{wrote-then}
+use Rattle.script_text.proofs.Laws.Printing.{wrote-then}
 use borrow.Author.Needs.{needs}
 use Rattle.script_text.proofs.digits.put_hex.Statement.{statement}
 use Rattle.script_text.proofs.digits.put_hex.Tie as tie

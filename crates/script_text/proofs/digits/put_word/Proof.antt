@@ -1,16 +1,16 @@
 -- Written by tools/prove from the file answers beside it: edit that, and not this.
 -- Sixteen digits.
-use Rattle.script_text.specs.Digits.{sixteen-of}
-use Rattle.script_text.proofs.Printing.{wrote-then, digits-wrote}
+use Rattle.script_text.specs.Digits.{word-digits, sixteen-digits-of}
+use Rattle.script_text.proofs.Laws.Printing.{wrote-then, digits-wrote}
 use borrow.Author.Needs.{needs}
 use Rattle.script_text.proofs.digits.put_word.Statement.{statement}
 use Rattle.script_text.proofs.digits.put_word.Tie as tie
 
-slice-aggregate-spell : tie.Need-slice-aggregate-spell
-slice-aggregate-spell c = search needs
+slice-aggregate-fill-digits : tie.Need-slice-aggregate-fill-digits
+slice-aggregate-fill-digits c = search needs
 
-spell-requires : tie.Need-spell-requires
-spell-requires c κs = search needs
+fill-digits-requires : tie.Need-fill-digits-requires
+fill-digits-requires c κs = search needs
 
 slice-aggregate-put : tie.Need-slice-aggregate-put
 slice-aggregate-put c = search needs
@@ -28,15 +28,15 @@ same-length : tie.Need-same-length
 same-length c = search needs
 
 returns : tie.Need-returns
-unfolding sixteen-of
-returns c = wrote-then (c .before .before .before .before .before .before .before .put .ensures) (digits-wrote 16 16 (c .before .before .before .before .before .before .before .before .before .before .before .before .before .before .args .n) (c .before .before .before .before .before .before .before .before .before .before .before .spell .ensures) (c .before .before .put2 .ensures))
+unfolding sixteen-digits-of
+returns c = wrote-then (c .before .before .before .before .before .before .before .put .ensures) (digits-wrote 16 word-digits (c .before .before .before .before .before .before .before .before .before .before .before .before .before .before .args .n) (c .before .before .before .before .before .before .before .before .before .before .before .fill-digits .ensures) (c .before .before .put2 .ensures))
 
 pub put-word-spec : {M : Type 1} → statement M
 put-word-spec =
     tie.close
     (tie.spec
-    slice-aggregate-spell
-    spell-requires
+    slice-aggregate-fill-digits
+    fill-digits-requires
     slice-aggregate-put
     put-requires
     slice-aggregate-put-2

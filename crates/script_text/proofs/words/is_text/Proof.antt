@@ -3,15 +3,15 @@
 use Prim.Native.Nat.{_≤_, _-_}
 use mathlib.Core.Path.{_≡_, refl, _∙_, sym}
 use lib.ListN.{length, drop}
-use Rattle.script_text.specs.Words.{textual}
-use Rattle.script_text.proofs.Scanning.{textual-stop, textual-more, textual-last}
+use Rattle.script_text.specs.Words.{is-text}
+use Rattle.script_text.proofs.Laws.Scanning.{is-text-stop, is-text-more, is-text-last}
 use borrow.Author.Needs.{needs}
 use native.Mathlib.Omega.{arith}
 use Rattle.script_text.proofs.words.is_text.Statement.{statement}
 use Rattle.script_text.proofs.words.is_text.Tie as tie
 
 abbrev Inv-loop : tie.InvT-loop
-Inv-loop s i₀ i = (i ≤ length s) × (textual s ≡ textual (drop i s))
+Inv-loop s i₀ i = (i ≤ length s) × (is-text s ≡ is-text (drop i s))
 
 abbrev μ-loop : tie.MeasureT-loop
 μ-loop s i₀ i = length s - i
@@ -32,13 +32,13 @@ loop-less : tie.Need-loop-less Inv-loop μ-loop
 loop-less c = search needs
 
 loop-again : tie.Need-loop-again Inv-loop μ-loop
-loop-again c = (omega arith, textual-more _ _ (c .before .before .before .loop-test .taken) (c .before .before .before .before .loop .inv .1) (sym (c .if1 .taken) ∙ c .before .is-text-byte .ensures))
+loop-again c = (omega arith, is-text-more _ _ (c .before .before .before .loop-test .taken) (c .before .before .before .before .loop .inv .1) (sym (c .if1 .taken) ∙ c .before .is-text-byte .ensures))
 
 returns : tie.Need-returns Inv-loop μ-loop
-returns c = textual-stop _ _ (c .before .before .before .loop-test .taken) (c .before .before .before .before .loop .inv .1) (sym (c .if1 .left) ∙ c .before .is-text-byte .ensures)
+returns c = is-text-stop _ _ (c .before .before .before .loop-test .taken) (c .before .before .before .before .loop .inv .1) (sym (c .if1 .left) ∙ c .before .is-text-byte .ensures)
 
 returns-2 : tie.Need-returns-2 Inv-loop μ-loop
-returns-2 c = textual-last _ _ (c .loop-test .left) (c .before .loop .inv .1)
+returns-2 c = is-text-last _ _ (c .loop-test .left) (c .before .loop .inv .1)
 
 pub is-text-spec : {M : Type 1} → statement M
 is-text-spec =

@@ -3,7 +3,7 @@
 use Prim.Native.Nat.{_-_}
 use mathlib.Core.Path.{_∙_, sym}
 use lib.ListN.{length}
-use Rattle.script_text.proofs.Scanning.{Passed, passed-none, passed-more, ended-blank, ended-last}
+use Rattle.script_text.proofs.Laws.Scanning.{Passed, passed-none, passed-more, ended-blank, ended-last}
 use borrow.Author.Needs.{needs}
 use Rattle.script_text.proofs.words.word_end.Statement.{statement}
 use Rattle.script_text.proofs.words.word_end.Tie as tie
