@@ -3,6 +3,7 @@
 ghost use mathlib.Core.Path.{_≡_};
 ghost use mathlib.Core.Bool.{_&&_};
 ghost use lib.Dec.{ltb};
+ghost use Rattle.walk_descriptor.specs.Descriptor.{kinds-of-access, exception-levels};
 ghost use Rattle.walk.specs.Memory.{image-fits};
 ghost use Rattle.walk.specs.Both.{root-fits, stage2-fits, both-fits, answer-2, answer};
 
@@ -47,9 +48,9 @@ enum Ended {
 }
 
 // What a level of stage 1 came to.
-enum Turn {
-    Next { table: u64, fetched: u64 },
-    Told(Answer),
+enum LevelOutcome {
+    NextTable { table: u64, fetched: u64 },
+    Answered(Answer),
 }
 
 // Section 1: whether RAM of `len` bytes and `frames` frames from `base` is one that the document describes.
@@ -65,10 +66,10 @@ fn fits_image(len: usize, base: u64, frames: u64) -> bool
 fn fits_root(root: u64) -> bool
     ensures { λ r. ⌜ r ≡ root-fits root ⌝ }
 {
-    if root % 4096 != 0 {
+    if root % memory::FRAME_BYTES != 0 {
         return false;
     }
-    root < 0x1000000000000
+    root < memory::ADDRESS_END
 }
 
 fn fits_stage2(len: usize, base: u64, frames: u64, root: u64, ipa: u64, access: u64) -> bool
@@ -76,8 +77,8 @@ fn fits_stage2(len: usize, base: u64, frames: u64, root: u64, ipa: u64, access: 
 {
     if fits_image(len, base, frames) {
         if fits_root(root) {
-            if access < 3 {
-                return ipa < 0x1000000000000;
+            if access < walk_descriptor::KINDS_OF_ACCESS {
+                return ipa < memory::ADDRESS_END;
             }
         }
     }
@@ -85,10 +86,10 @@ fn fits_stage2(len: usize, base: u64, frames: u64, root: u64, ipa: u64, access: 
 }
 
 fn fits_access(access: u64, el: u64) -> bool
-    ensures { λ r. ⌜ r ≡ (ltb access 3 && ltb el 2) ⌝ }
+    ensures { λ r. ⌜ r ≡ (ltb access kinds-of-access && ltb el exception-levels) ⌝ }
 {
-    if access < 3 {
-        return el < 2;
+    if access < walk_descriptor::KINDS_OF_ACCESS {
+        return el < walk_descriptor::EXCEPTION_LEVELS;
     }
     false
 }
@@ -119,7 +120,7 @@ pub fn stage2(ram: &[u8], base: u64, frames: u64, root: u64, ipa: u64, access: u
     ensures { λ r. ⌜ r ≡ answer-2 (now (ram .entry)) base frames root ipa access ⌝ }
 {
     if fits_stage2(ram.len(), base, frames, root, ipa, access) {
-        return stage_2::last(ram, base, root, access, ipa, 0);
+        return stage_2::answer(ram, base, root, access, ipa, 0);
     }
     Answer::Refused
 }

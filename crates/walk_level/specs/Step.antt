@@ -6,9 +6,9 @@ use Rattle.walk_level.specs.declared.Step.the-variants.{Down, Output, Fa
 use Rattle.walk_level.specs.Stage.{Stage, meaning}
 
 -- a stage that does nothing but say what it came to
-abbrev pub steps : (ℕ → Bool) → Stage Step
-steps rights = record { allows = rights; fault = λ kind level. Fail kind; output = Output }
+abbrev pub step-rules : (rights : ℕ → Bool) → Stage Step
+step-rules rights = record { allows = rights; fault = λ kind level. Fail kind; output = Output }
 
 -- what the descriptor d of a level comes to
-unfoldable pub step-of : (ℕ → Bool) → ℕ → ℕ → ℕ → Step
-step-of rights ia level d = meaning (steps rights) ia level d Down
+unfoldable pub step-of : (rights : ℕ → Bool) (ia level d : ℕ) → Step
+step-of rights ia level d = meaning (step-rules rights) ia level d Down

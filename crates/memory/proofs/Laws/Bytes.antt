@@ -18,7 +18,8 @@ unfolding word-at bytes-from
 word-bytes m at = simp add-assoc
 
 -- equal bytes make equal numbers
-pub bytes-agree : (n : ℕ) (m l : List ℕ) (at to : ℕ) → ((i : ℕ) → i ≤ n → getD m (at + i) 0 ≡ getD l (to + i) 0) → bytes-from n m at ≡ bytes-from n l to
+pub bytes-agree : (n : ℕ) (m l : List ℕ) (at to : ℕ) → ((i : ℕ) → i ≤ n → getD m (at + i) 0 ≡ getD l (to + i) 0)
+    → bytes-from n m at ≡ bytes-from n l to
 unfolding bytes-from
 bytes-agree zero m l at to h = simp add-zero at (h 0 (omega arith))
 bytes-agree (suc n) m l at to h =
@@ -31,7 +32,8 @@ pub byte-above : (k w : ℕ) → w / 2 ^ (8 * suc k) ≡ w / 256 / 2 ^ (8 * k)
 byte-above k w = ap (λ (i : ℕ). w / 2 ^ i) (omega arith) ∙ sym (shr-shr w 8 (8 * k))
 
 -- bytes that are those of a number make up this number
-pub bytes-made : (n : ℕ) (m : List ℕ) (at w : ℕ) → ((i : ℕ) → i ≤ n → getD m (at + i) 0 ≡ w / 2 ^ (8 * i) % 256) → w / 2 ^ (8 * n) < 256 → bytes-from n m at ≡ w
+pub bytes-made : (n : ℕ) (m : List ℕ) (at w : ℕ) → ((i : ℕ) → i ≤ n → getD m (at + i) 0 ≡ w / 2 ^ (8 * i) % 256) → w / 2 ^ (8 * n) < 256
+    → bytes-from n m at ≡ w
 unfolding bytes-from
 bytes-made zero m at w h top =
     let first : getD m at 0 ≡ w % 256 = simp (add-zero, div-one) at (h 0 (omega arith)) in
@@ -39,7 +41,8 @@ bytes-made zero m at w h top =
     omega arith
 bytes-made (suc n) m at w h top =
     let first : getD m at 0 ≡ w % 256 = simp (add-zero, div-one) at (h 0 (omega arith)) in
-    let above : (i : ℕ) → i ≤ n → getD m (at + 1 + i) 0 ≡ w / 256 / 2 ^ (8 * i) % 256 = λ i p. ap (λ (j : ℕ). getD m j 0) (omega arith) ∙ h (suc i) (omega arith) ∙ ap (λ (x : ℕ). x % 256) (byte-above i w) in
+    let above : (i : ℕ) → i ≤ n → getD m (at + 1 + i) 0 ≡ w / 256 / 2 ^ (8 * i) % 256 = λ i p. ap (λ (j : ℕ). getD m j 0) (omega arith)
+    ∙ h (suc i) (omega arith) ∙ ap (λ (x : ℕ). x % 256) (byte-above i w) in
     let rest = bytes-made n m (at + 1) (w / 256) above (rw byte-above at top) in
     omega arith
 

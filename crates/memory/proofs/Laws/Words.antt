@@ -62,7 +62,8 @@ lowest-byte (suc k) m at v i h room =
 
 -- the word that was stored is there
 pub word-same : (m : List ℕ) (at v : ℕ) → at + 8 ≤ length m → v < 2 ^ 64 → word-at (stored-at m at v) at ≡ v
-word-same m at v room h = rw (stored-lowest, word-bytes) (bytes-made 7 (lowest 8 m at v) at v (λ i p. lowest-byte 8 m at v i (omega arith) room) (omega arith))
+word-same m at v room h =
+    rw (stored-lowest, word-bytes) (bytes-made 7 (lowest 8 m at v) at v (λ i p. lowest-byte 8 m at v i (omega arith) room) (omega arith))
 
 -- nothing cleared is nothing changed; one byte more
 pub cleared-none : (m : List ℕ) (at : ℕ) → cleared-at m at 0 ≡ m
@@ -102,4 +103,6 @@ cleared-byte m at (suc k) i room p q =
 
 -- the word at a place is the first of the part that begins there
 pub word-of-part : (m : List ℕ) (at n : ℕ) → 8 ≤ n → word-at (take n (drop at m)) 0 ≡ word-at m at
-word-of-part m at n room = rw (word-bytes _ 0, word-bytes m) (bytes-agree 7 (take n (drop at m)) m 0 at (λ i p. simp zero-add (getD-take n (drop at m) i 0 (omega arith) ∙ getD-drop at m i 0)))
+word-of-part m at n room =
+    rw (word-bytes _ 0, word-bytes m) (bytes-agree 7 (take n (drop at m)) m 0 at
+    (λ i p. simp zero-add (getD-take n (drop at m) i 0 (omega arith) ∙ getD-drop at m i 0)))

@@ -10,9 +10,9 @@ use Rattle.memory.specs.Ram.{fewest-frames, most-frames}
 use Rattle.walk_descriptor.specs.declared.FaultKind.the-variants.{Translation, Permission}
 use Rattle.walk.specs.Memory.{read-at}
 use Rattle.walk_descriptor.specs.Descriptor.{span, slot, address, allows-2}
-use Rattle.walk.specs.Both.{Walked, ends, having-fetched, One, reached, failed, stage-2, tell-2, answer-2}
-use Rattle.walk.specs.Steps.{rest-2}
-use Rattle.walk.proofs.Laws.Level.{read-in, slot-at, stage-2-rest, level-empty, level-table, level-page}
+use Rattle.walk.specs.Both.{Walked, ends, having-fetched, Stage-2-result, reached, failed, stage-2, as-answer-2, answer-2}
+use Rattle.walk.specs.Steps.{from-table-2}
+use Rattle.walk.proofs.Laws.Level.{read-in, slot-at, stage-2-from-table, level-empty, level-table, level-page}
 use Rattle.walk.proofs.Laws.Fits.{answer-2-is}
 use Rattle.model.specs.State.{State, table, page-count}
 use Rattle.model.specs.Entry.{Entry, empty, to-table, to-page, other, table-entry, page-entry}
@@ -41,19 +41,19 @@ level-index (suc (suc (suc zero))) a l = omega arith
 level-index (suc (suc (suc (suc h)))) a l = absurd (omega arith)
 
 -- a walk comes to x, having fetched n descriptors
-pub record Ends (w : Walked One) (x : One) (n : ℕ) : Type 0 where
+pub record Ends (w : Walked Stage-2-result) (x : Stage-2-result) (n : ℕ) : Type 0 where
   pub result : w .result ≡ x
   pub count : length (w .fetched) ≡ n
 
-ends-after : {w v : Walked One} {x : One} {n : ℕ} (a : ℕ) → w ≡ having-fetched (a ∷ []) v → Ends v x n → Ends w x (suc n)
-ends-after {w} {v} {x} {n} a e y = subst (λ (u : Walked One). Ends u x (suc n)) (sym e) (record { result = y .result; count = let z = y .count in omega arith })
+ends-after : {w v : Walked Stage-2-result} {x : Stage-2-result} {n : ℕ} (a : ℕ) → w ≡ having-fetched (a ∷ []) v → Ends v x n → Ends w x (suc n)
+ends-after {w} {v} {x} {n} a e y = subst (λ (u : Walked Stage-2-result). Ends u x (suc n)) (sym e) (record { result = y .result; count = let z = y .count in omega arith })
 
-ends-now : (x : One) → Ends (ends x) x 0
+ends-now : (x : Stage-2-result) → Ends (ends x) x 0
 ends-now x = record { result = refl; count = refl }
 
 module _ (s : State) (c : Core s) (b : ℕ) (m : List ℕ) (x : Image s b m) (g a : ℕ) (w : Access) where
-  abbrev rest : (h t : ℕ) → Walked One
-  rest h t = rest-2 m b (access w) a h (b + 4096 * t)
+  abbrev rest : (h t : ℕ) → Walked Stage-2-result
+  rest h t = from-table-2 m b (access w) a h (b + 4096 * t)
 
   -- what the walk reads in table t of height h
   reads : (h t d : ℕ) → h ≤ 3 → t < s .size → s .word t (index h (a / 4096)) ≡ d → read-at m b (slot (3 - h) a (b + 4096 * t)) ≡ some d
@@ -70,14 +70,14 @@ module _ (s : State) (c : Core s) (b : ℕ) (m : List ℕ) (x : Image s b m) (g 
       (ends-now (failed Translation (3 - h)))
 
   -- a table
-  at-table : (h t t′ : ℕ) {o : One} {n : ℕ} → h < 3 → t < s .size → s .first + t′ < page-count → entry-at s t (index (suc h) (a / 4096)) ≡ to-table t′ → Ends (rest h t′) o n → Ends (rest (suc h) t) o (suc n)
+  at-table : (h t t′ : ℕ) {o : Stage-2-result} {n : ℕ} → h < 3 → t < s .size → s .first + t′ < page-count → entry-at s t (index (suc h) (a / 4096)) ≡ to-table t′ → Ends (rest h t′) o n → Ends (rest (suc h) t) o (suc n)
   at-table h t t′ l k r e y =
       let d = table-entry (s .first) t′ in
       let base = x .base in
       let to : address d ≡ b + 4096 * t′ = table-address (s .first) t′ r ∙ omega arith in
       ends-after (slot (3 - suc h) a (b + 4096 * t))
       (level-table m b (access w) a h (b + 4096 * t) d l (reads (suc h) t d l k (is-table (s .first) (s .word t (index (suc h) (a / 4096))) t′ e)) (table-kind (s .first) t′ r) (table-low (s .first) t′ r) (table-high (s .first) t′ r)
-      ∙ ap (λ (u : ℕ). having-fetched (slot (3 - suc h) a (b + 4096 * t) ∷ []) (rest-2 m b (access w) a h u)) to) y
+      ∙ ap (λ (u : ℕ). having-fetched (slot (3 - suc h) a (b + 4096 * t) ∷ []) (from-table-2 m b (access w) a h u)) to) y
 
   -- a page
   at-page : (t f r : ℕ) → t < s .size → s .first + f < page-count → entry-at s t (index 0 (a / 4096)) ≡ to-page f r → Ends (rest 0 t) (comes b (a % 4096) 0 w (some (f, r))) 1
@@ -124,9 +124,9 @@ module _ (s : State) (c : Core s) (b : ℕ) (m : List ℕ) (x : Image s b m) (g 
       let n = z .1 in
       let y = z .2 in
       record {
-        result = ap (λ (u : Walked One). u .result) (stage-2-rest m b (access w) a (b + 4096 * s .root g)) ∙ y .result
+        result = ap (λ (u : Walked Stage-2-result). u .result) (stage-2-from-table m b (access w) a (b + 4096 * s .root g)) ∙ y .result
             ∙ ap (λ (o : Option ℕ). comes b (a % 4096) (missing s g (a / 4096)) w (page-at s (a / 4096) o)) (sym (leaf-there s c g (a / 4096) e));
-        count = ap (λ (u : Walked One). length (u .fetched)) (stage-2-rest m b (access w) a (b + 4096 * s .root g)) ∙ y .count ∙ omega arith;
+        count = ap (λ (u : Walked Stage-2-result). length (u .fetched)) (stage-2-from-table m b (access w) a (b + 4096 * s .root g)) ∙ y .count ∙ omega arith;
       }
 
   -- the public answer, where n fits document 01
@@ -139,5 +139,5 @@ module _ (s : State) (c : Core s) (b : ℕ) (m : List ℕ) (x : Image s b m) (g 
       let room = c .room in
       let base = x .base in
       answer-2-is m b (s .size) (record { ram = record { least = least; most = most; aligned = omega arith; low = omega arith }; long = x .long }) (b + 4096 * root) a (access w) (omega arith) (omega arith) (access-low w) l
-      ∙ ap (λ (r : One). tell-2 r (length (stage-2 m b (b + 4096 * root) (access w) a .fetched))) (z .result)
-      ∙ ap (tell-2 (says s b g a w)) (z .count)
+      ∙ ap (λ (r : Stage-2-result). as-answer-2 r (length (stage-2 m b (b + 4096 * root) (access w) a .fetched))) (z .result)
+      ∙ ap (as-answer-2 (says s b g a w)) (z .count)

@@ -7,11 +7,11 @@ use borrow.Author.Tests.{eq-eqb, ne-eqb}
 use Rattle.walk_level.proofs.block_or_page.Statement.{statement}
 use Rattle.walk_level.proofs.block_or_page.Tie as tie
 
-reach-requires : tie.Need-reach-requires
-reach-requires c κs = search needs
+span-requires : tie.Need-span-requires
+span-requires c κs = search needs
 
-mul-a : tie.Need-mul-a
-mul-a c = search needs
+address-requires : tie.Need-address-requires
+address-requires c κs = search needs
 
 bits-50-to-48-clear-requires : tie.Need-bits-50-to-48-clear-requires
 bits-50-to-48-clear-requires c κs = search needs
@@ -31,7 +31,8 @@ leaf-requires c κs = search needs
 returns : tie.Need-returns
 unfolding leaf
 returns c = simp (
-  sym (c .before .before .before .before .before .before .reach .ensures .0),
+  sym (c .before .before .before .before .before .before .before .span .ensures .0),
+  sym (c .before .before .before .before .before .before .address .ensures .0),
   sym (c .before .before .before .before .before .bits-50-to-48-clear .ensures),
   c .before .before .before .before .if1 .taken,
   sym (c .before .before .before .offset-in .ensures .0),
@@ -43,7 +44,8 @@ returns c = simp (
 returns-2 : tie.Need-returns-2
 unfolding leaf
 returns-2 c = simp (
-  sym (c .before .before .before .before .reach .ensures .0),
+  sym (c .before .before .before .before .before .span .ensures .0),
+  sym (c .before .before .before .before .address .ensures .0),
   sym (c .before .before .before .bits-50-to-48-clear .ensures),
   c .before .before .if1 .taken,
   sym (c .before .offset-in .ensures .0),
@@ -53,7 +55,8 @@ returns-2 c = simp (
 returns-3 : tie.Need-returns-3
 unfolding leaf
 returns-3 c = simp (
-  sym (c .before .before .reach .ensures .0),
+  sym (c .before .before .before .span .ensures .0),
+  sym (c .before .before .address .ensures .0),
   sym (c .before .bits-50-to-48-clear .ensures),
   c .if1 .left,
 )
@@ -62,8 +65,8 @@ pub block-or-page-spec : {M : Type 1} → statement M
 block-or-page-spec =
     tie.close
     (tie.spec
-    reach-requires
-    mul-a
+    span-requires
+    address-requires
     bits-50-to-48-clear-requires
     offset-in-requires
     offset-in-requires-2

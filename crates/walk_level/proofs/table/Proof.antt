@@ -9,14 +9,15 @@ use Rattle.walk_level.proofs.table.Tie as tie
 bits-50-to-48-clear-requires : tie.Need-bits-50-to-48-clear-requires
 bits-50-to-48-clear-requires c κs = search needs
 
-mul-t7 : tie.Need-mul-t7
-mul-t7 c = search needs
+address-requires : tie.Need-address-requires
+address-requires c κs = search needs
 
 returns : tie.Need-returns
 returns c = simp (
-  sym (c .before .before .bits-50-to-48-clear .ensures),
-  c .before .if1 .taken,
-  eq-eqb _ _ (c .if2 .taken),
+  sym (c .before .before .before .bits-50-to-48-clear .ensures),
+  c .before .before .if1 .taken,
+  eq-eqb _ _ (c .before .if2 .taken),
+  sym (c .address .ensures .0),
 )
 
 returns-2 : tie.Need-returns-2
@@ -33,4 +34,11 @@ returns-3 c = simp (
 )
 
 pub table-spec : {M : Type 1} → statement M
-table-spec = tie.close (tie.spec bits-50-to-48-clear-requires mul-t7 returns returns-2 returns-3)
+table-spec =
+    tie.close
+    (tie.spec
+    bits-50-to-48-clear-requires
+    address-requires
+    returns
+    returns-2
+    returns-3)
