@@ -168,7 +168,8 @@ def check_functions(say, functions, stores):
     if stores is releases_descriptor:
         wrong = [name for name, what in WRITES.items() if "S" in what and plain_stores(exported[name])]
         wrong += [name for name, s in exported.items() if any(stores_descriptor(word) for word, _ in s)]
-        say("writes no descriptor but by a store-release", wrong and f"{', '.join(wrong)}: a plain 64-bit store, not the stack's")
+        wrong = ", ".join(sorted(set(wrong)))
+        say("writes no descriptor but by a store-release", wrong and f"{wrong}: a plain 64-bit store, not the stack's")
     say("calls back nobody", "there is a call of a register" if any(map(calls_register, words)) else None)
     say("divides nothing", "there are divisions" if any(map(divides, words)) else None)
 
