@@ -135,7 +135,8 @@ static int block_at_level_0(const struct access *access)
            && (((uint64_t *)FRAME(frame))[access->va >> 39] & 3) == 1;
 }
 
-static uint64_t counted, found, faults[3][KINDS], level_of_stage_1, blocks_at_level_0, not_modelled, different;
+enum { AT_STAGE_1, AT_STAGE_2, DURING_STAGE_1, WAYS_TO_FAIL };
+static uint64_t counted, found, faults[WAYS_TO_FAIL][KINDS], level_of_stage_1, blocks_at_level_0, not_modelled, different;
 
 /* PAR_EL1: bit 0, it failed; 6..1 the status; 8, during stage 1; 9, at stage 2. Or bits 47..12 of the address. */
 static int same_place(uint64_t par, uint64_t va, uint64_t address)
@@ -172,7 +173,7 @@ static void compare(const struct access *access)
         found++;
     } else {
         same &= same_fault(par, answer);
-        faults[what == PAGELEDGER_DURING ? 2 : answer[PAGELEDGER_ANSWER_STAGE] - 1][kind]++;
+        faults[what == PAGELEDGER_DURING ? DURING_STAGE_1 : answer[PAGELEDGER_ANSWER_STAGE] - 1][kind]++;
     }
     if (!same && different++ < SHOWN)
         printf("  DIFFERENT: guest %lu va 0x%lx kind %lu EL%lu: PAR_EL1 0x%lx, library %lu 0x%lx kind %lu stage %lu level %lu of %lu\n",
@@ -209,15 +210,15 @@ static void try_accesses(uint64_t guest)
 
 static void show(const uint64_t *answers)
 {
-    static const char *const stages[] = {"stage 1", "stage 2", "stage 2 during stage 1"};
+    static const char *const ways[WAYS_TO_FAIL] = {"stage 1", "stage 2", "stage 2 during stage 1"};
     printf("  answered 0 to 14:");
     for (int i = 0; i <= PAGELEDGER_DIRTY; i++)
         printf(" %lu", answers[i]);
     printf("\n  accesses: %lu, found %lu", counted, found);
-    for (int stage = 0; stage < 3; stage++)
+    for (int way = 0; way < WAYS_TO_FAIL; way++)
         for (int kind = 0; kind < KINDS; kind++)
-            if (faults[stage][kind])
-                printf(", %s %s %lu", stages[stage], kind_names[kind], faults[stage][kind]);
+            if (faults[way][kind])
+                printf(", %s %s %lu", ways[way], kind_names[kind], faults[way][kind]);
     printf("\n  not compared: %lu not modelled, %lu blocks at level 0; with stage 1's level in place of stage 2's: %lu\n",
            not_modelled, blocks_at_level_0, level_of_stage_1);
     printf("  differences: %lu\n", different);
@@ -237,7 +238,8 @@ void machine_against_walk(void)
     }
     show(answers);
     check("there are none", different == 0);
-    check("set up anew, and each answer of a walk was found", !set_up && found && faults[0][PAGELEDGER_TRANSLATION]
-          && faults[0][PAGELEDGER_ACCESS_FLAG] && faults[0][PAGELEDGER_PERMISSION] && faults[1][PAGELEDGER_TRANSLATION]
-          && faults[1][PAGELEDGER_PERMISSION] && faults[2][PAGELEDGER_TRANSLATION]);
+    check("set up anew, and each answer of a walk was found", !set_up && found
+          && faults[AT_STAGE_1][PAGELEDGER_TRANSLATION] && faults[AT_STAGE_1][PAGELEDGER_ACCESS_FLAG]
+          && faults[AT_STAGE_1][PAGELEDGER_PERMISSION] && faults[AT_STAGE_2][PAGELEDGER_TRANSLATION]
+          && faults[AT_STAGE_2][PAGELEDGER_PERMISSION] && faults[DURING_STAGE_1][PAGELEDGER_TRANSLATION]);
 }

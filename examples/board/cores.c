@@ -11,13 +11,15 @@ static struct {
 #define TOLD(field) __atomic_load_n(&second.field, __ATOMIC_ACQUIRE)
 #define TELL(field, value) __atomic_store_n(&second.field, value, __ATOMIC_RELEASE)
 
+static uint64_t tables; /* VTTBR_EL2 for the second core, which makes no call of the library: one core at a time does */
+
 /* The second core: where the guest's access is refused, it is tried again. */
 void second_core(void)
 {
     struct pageledger_arm_fault fault;
     own_registers();
     SET(sctlr_el1, guests[READER].sctlr);
-    SET(vttbr_el2, pageledger_arm_vttbr(BOTH, READER));
+    SET(vttbr_el2, tables);
     ISB();
     while (!TOLD(stop)) {
         enter(&guests[READER]);
@@ -102,6 +104,7 @@ void two_cores(void)
     printf("A guest reads a page on the second core, again and again\n");
     check("it is set up", set_up());
     page = frame_of(READER, PAGE);
+    tables = pageledger_arm_vttbr(BOTH, READER);
     begin(READER, (struct guest){.sctlr = SCTLR_EL1_STAGE_1_OFF});
     start_second_core();
     check("it reads what the page holds", reads_on() && seen(LAST_READ) == READER_FINDS);

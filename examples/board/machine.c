@@ -22,11 +22,14 @@
 
 enum { TABLE_ENTRIES = 512, IN_TIME_SECONDS = 5 };
 
+/* The monitor's own memory, each address where it is: the board's devices in the first GiB, RAM in the second. */
+static const uint64_t level_1[TABLE_ENTRIES] __attribute__((aligned(PAGE_BYTES))) = {
+    BLOCK | WRITABLE | DEVICES | NO_EXECUTION,
+    GIB | BLOCK | WRITABLE | INNER_SHAREABLE,
+};
+
 void own_registers(void)
 {
-    static uint64_t level_1[TABLE_ENTRIES] __attribute__((aligned(PAGE_BYTES)));
-    level_1[0] = BLOCK | WRITABLE | DEVICES | NO_EXECUTION;
-    level_1[1] = GIB | BLOCK | WRITABLE | INNER_SHAREABLE;
     SET(mair_el2, MAIR_EL2_NORMAL_DEVICES);
     SET(tcr_el2, TCR_EL2_RES1 | pageledger_arm_range() << 16 | WALKS_CACHED | VA_BITS(39));
     SET(ttbr0_el2, (uintptr_t)level_1);
