@@ -10,12 +10,15 @@
  *
  * What is checked of the compiled library and not proved (tests/objects.py, tests/link.py): as compiled for Arm it uses less than
  * 1 KiB of stack, reads a descriptor by one 64-bit load and writes it by one 64-bit store (so that none is seen half-written where
- * `ram` lies at a multiple of 8), clears a new table before it links it, and on bare metal uses no vector register; every build
- * answers the same to the same calls. No function calls back, waits, or uses a heap, global state, a lock or floating point.
+ * `ram` lies at a multiple of 8), and clears a new table before it links it; on bare metal that store is a store-release, STLR, and
+ * no vector register is used; every build answers the same to the same calls. No function calls back, waits, or uses a heap, global
+ * state, a lock or floating point.
  *
  * What a caller sees to, of every call:
  *   - an array is a pointer and its number of elements. The pointer is valid for that many elements during the call, aligned for
- *     its type, and not null even where the number is 0. An array that is written overlaps no other;
+ *     its type, and not null even where the number is 0. An array that is written overlaps no other. RAM that the monitor's
+ *     functions are given lies at a multiple of 8: elsewhere the bare-metal library takes an alignment fault in its first map. No
+ *     function here can see where it lies; pageledger_arm_set_up refuses it;
  *   - frames, guests, addresses, rights, accesses may be any numbers: what does not fit is answered. So may the lengths that
  *     set-up and the walks are given, and the length of an array for an answer. The lengths of RAM and ledger that operations and
  *     questions are given may not: they are those of the two arrays for which set-up answered 0. Others are undefined behaviour;
@@ -131,12 +134,13 @@ uint64_t pageledger_both_stages(const uint8_t *ram, size_t ram_length, uint64_t 
  * changed nothing, not a byte of RAM and not the ledger. And of any sequence of operations with any numbers after a set-up, with
  * guests' stores between them and translation caches taken into account: no page is reached by two guests unless its owner shared
  * it, none is written beyond what was shared, no guest reaches a table, and a frame changes hands only when no cache can lead to
- * it, and all zero. No function can see to what follows; where it is not kept, this is not true of the machine.
+ * it, and all zero. No function here can see to what follows; where it is not kept, this is not true of the machine. For a monitor at
+ * EL2, pageledger_arm.h has it as functions.
  *
  * Set-up, once. When it is called, the processors keep nothing: every proof about a sequence begins there. So once per boot, before
- * any guest runs: DSB ISHST, TLBI ALLE1IS (or VMALLS12E1IS under every VMID), DSB ISH, ISB; then pageledger_set_up. Translations that
- * are left from before void isolation, and so does a second set-up, unless every guest has stopped and all of this is done again:
- * the answer is 0 all the same.
+ * any guest runs: DSB ISHST, TLBI ALLE1IS (or VMALLS12E1IS under every VMID), DSB ISH, ISB; then pageledger_set_up. A core that comes
+ * up later does TLBI ALLE1, DSB NSH, ISB. Translations that are left from before void isolation, and so does a second set-up, unless
+ * every guest has stopped and all of this is done again: the answer is 0 all the same.
  *
  * Calls. One at a time, whichever core makes it; the two arrays are always the same, and the ledger lies outside RAM.
  *
@@ -149,23 +153,27 @@ uint64_t pageledger_both_stages(const uint8_t *ram, size_t ram_length, uint64_t 
  *   - devices that access memory themselves: nothing of RAM. These tables are not theirs.
  *
  * Who may run. A guest runs only while it exists: before pageledger_destroy it has stopped on every core. It may run on any core
- * during any call, with two exceptions. While pageledger_map works for a guest, no core runs that guest: map clears a new table and
- * links it with no barrier between, and another core might see the link first. And during pageledger_stage2 and
- * pageledger_both_stages on this RAM none runs that writes it. After pageledger_create, pageledger_give and pageledger_map a barrier
- * completes, DSB ISH and then ISB, before the guest runs on what they made.
+ * during any call of the bare-metal library, pageledger_map for itself too: who sees a table's link, by a store-release, sees its zeros.
+ * (The other archives have plain stores: over them no core runs a guest while pageledger_map works for it.) But during
+ * pageledger_stage2 and pageledger_both_stages on this RAM none runs that writes it. After pageledger_create a barrier completes, DSB
+ * ISH and then ISB, before the guest runs; after pageledger_map, before it counts on what was mapped: till then it may fault there.
  *
  * Invalidation. pageledger_invalidated is a report and does nothing to the processor. It is called only after all translations of the
- * guest have been invalidated on every core: DSB ISHST, TLBI VMALLS12E1IS under its VMID, DSB ISH, ISB.
+ * guest have been invalidated on every core: DSB ISHST, TLBI VMALLS12E1IS, DSB ISH, ISB. This TLBI takes the VMID from VTTBR_EL2, so
+ * that the guest's stands there, an ISB later, and it wants HCR_EL2.TGE = 0. When the report of a destroyed guest is made, no core has
+ * its root in VTTBR_EL2 any more: that frame is then anybody's.
  *
- * Caches of data and instructions. Where a guest can map its memory as not cacheable, a frame that pageledger_give cleared is cleaned
- * to the point of coherency (DC CIVAC, DSB ISH) before it is mapped; else the guest may read what the memory held below the caches.
- * Before pageledger_map maps a frame for execution that was given, or written, since the last time: DC CVAU over the frame, DSB ISH,
- * IC IALLUIS, DSB ISH, ISB; else the guest may execute lines that an instruction cache kept of the frame's former contents.
+ * Caches of data and instructions. Every guest begins with its stage 1 off, and may map its memory as not cacheable later: it then reads
+ * below the caches. So after pageledger_give, and after the host has stored to the frame, it is cleaned to the point of coherency before
+ * pageledger_map: DC CIVAC for each line, DSB; else the guest may read what the memory held before. And before it is mapped for
+ * execution: IC IALLUIS, DSB ISH, ISB; else the guest may execute lines that an instruction cache kept of the frame's former contents.
  *
  * Registers. RAM and the ledger are mapped for the library as normal memory, without alignment checks (SCTLR_EL2.A = 0); RAM with
- * the attributes of the processor's table walks: write-back, inner shareable. While a guest runs: HCR_EL2.VM = 1 and FWB = 0; in
- * VTTBR_EL2 its root table (pageledger_guest) and a VMID that is its number's alone; in VTCR_EL2 PAGELEDGER_VTCR_EL2, on a processor
- * with 48 bits of physical address. */
+ * the attributes of the processor's table walks: write-back, inner shareable. While a guest runs: HCR_EL2.VM = 1 and TGE, FWB, CD, ID,
+ * ATA = 0, and TSC = 1, or a guest's SMC reaches the firmware, which can turn the board off; in VTTBR_EL2 its root table
+ * (pageledger_guest) and a VMID that is its number's alone; in VTCR_EL2 PAGELEDGER_VTCR_EL2, on a processor with 48 bits of physical
+ * address (with 44: pageledger_arm_vtcr). When a guest faults for a permission, HPFAR_EL2 does not tell the address, unless it is a
+ * stage-1 descriptor's: AT S1E1R on FAR_EL2 does, with PAR_EL1 saved (pageledger_arm_read_fault). */
 
 /* VTCR_EL2: bit 31 = 1, PS = 5 (48 bits), TG0 = 0 (4 KiB), SH0 = 3, ORGN0 = 1, IRGN0 = 1, SL0 = 2 (from level 0), T0SZ = 16 (48 bits);
  * all else 0, among it HA and HD. Bit 19, VS, is the host's choice: VMIDs of 16 bits. */

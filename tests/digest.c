@@ -78,7 +78,8 @@ static uint64_t number(uint64_t below)
 /* Tables that lead into RAM, with the bits of a descriptor right more often than not, and with others now and then. */
 static uint64_t descriptor(void)
 {
-    uint64_t d = (base + 4096 * random_below(FRAMES + 1)) | 0x4c0 | (random_below(6) ? 3 : random_below(4));
+    uint64_t d = (base + 4096 * random_below(FRAMES + 1)) | 0x4c0;
+    d |= random_below(6) ? 3 : random_below(4);
     return random_below(8) ? d : d ^ (uint64_t)1 << random_below(60);
 }
 
@@ -86,7 +87,8 @@ static void walk_at_random(void)
 {
     uint64_t answer[PAGELEDGER_ANSWER_NUMBERS], root1 = 4096 * random_below(FRAMES), root2 = base + 4096 * random_below(FRAMES);
     uint64_t va = number((uint64_t)1 << 48), access = number(3), el = number(2);
-    words[random_below(sizeof words / sizeof *words)] = descriptor();
+    size_t place = random_below(sizeof words / sizeof *words); /* apart: C does not say which side of = comes first */
+    words[place] = descriptor();
     take_in(random_below(2)
             ? pageledger_stage2(RAM, base, FRAMES, root2, va, access, answer, PAGELEDGER_ANSWER_NUMBERS)
             : pageledger_both_stages(RAM, base, FRAMES, root1 + base, root2, va, access, el, answer, PAGELEDGER_ANSWER_NUMBERS));

@@ -2,10 +2,11 @@
 """link.py [PART...]: programs link the library and run. The parts, all of them where none is named, want the kit, out/ as ./build writes
 it, and:
 
-  alone   nothing more: programs for Arm link the library with nothing beside it
+  alone   nothing more: programs for Arm link the library with nothing beside it, and pageledger_arm.h is clean C++
   c       cc and c++: the header is clean C and C++ and has the numbers that are proved, a dropped answer is warned of, the examples
           print what they should, and so does tests/digest.c
-  arm     Debian's gcc-aarch64-linux-gnu and qemu-user, on an Arm machine cc: tests/digest.c prints the same over both Arm libraries
+  arm     Debian's gcc-aarch64-linux-gnu and qemu-user, on an Arm machine cc: tests/digest.c prints the same over both Arm libraries,
+          and pageledger_arm.h is clean C
   rust    cc and cargo: the examples in Rust, and the crate host/ beside a second implementation of documents 01 and 03
 """
 
@@ -94,12 +95,22 @@ def dropped_answer(compiler, language, standard, work):
     return None
 
 
+def kit_tools():
+    """Where the kit's clang and linker stand."""
+    doc = subprocess.run(["rt", "doc"], stdout=subprocess.PIPE, text=True).stdout
+    return pathlib.Path(doc.strip()).parent.parent / "on" / platform.machine() / "toolchain/bin"
+
+
+def for_arm(compiler, language, standard):
+    """What is wrong with pageledger_arm.h, or None."""
+    command = [*compiler, "-x", language, f"-std={standard}", *STRICT, "-fsyntax-only", "-include", "out/include/pageledger_arm.h"]
+    return run([*command, "/dev/null"])
+
+
 def linked_alone(folder, triple, helpers, work):
     """Links a program for Arm that has the address of each function, with the kit's linker and no other library. Of a C library the
     program has these helpers alone."""
-    if problem := run(["rt", "doc"]):
-        return problem
-    tools = pathlib.Path(run.printed.strip()).parent.parent / "on" / platform.machine() / "toolchain/bin"
+    tools = kit_tools()
     names = sorted(header.functions())
     source, program = pathlib.Path(work, "alone.c"), f"{work}/alone-{folder}"
     source.write_text("".join(f"extern char {n}[];\n" for n in names) + "char *_start[] = {" + ", ".join(names) + "};\n"
@@ -121,6 +132,9 @@ def digest(folder, work, compiler=("cc",), runner=()):
 def check_alone(count, work):
     count.check("a program for aarch64-linux", linked_alone("aarch64-linux", "aarch64-unknown-linux-gnu", ["memset"], work))
     count.check("a program for aarch64-none-elf", linked_alone("aarch64-none-elf", "aarch64-none-elf", [], work))
+    compiler = [kit_tools() / "clang", "--target=aarch64-none-elf", "--no-default-config", "-Iexamples/board/libc"]
+    for standard in ("c++11", "c++17"):
+        count.check(f"pageledger_arm.h as {standard}", for_arm(compiler, "c++", standard))
 
 
 def check_c(count, work):
@@ -148,6 +162,8 @@ def check_arm(count, work):
     compiler, runner = (["cc", "-static"], []) if native else (["aarch64-linux-gnu-gcc", "-static"], ["qemu-aarch64"])
     for folder in ("aarch64-linux", "aarch64-none-elf"):
         count.check(f"the answers of out/{folder}", digest(folder, work, compiler, runner))
+    for standard in ("c99", "c11", "c2x"):
+        count.check(f"pageledger_arm.h as {standard}", for_arm(compiler[:1], "c", standard))
 
 
 def check_rust(count, _):

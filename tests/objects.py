@@ -116,6 +116,17 @@ def stores_descriptor(word):
     return word & 0xffe00c00 == 0xf8200800
 
 
+def releases_descriptor(word):
+    """A store of eight bytes that no observer sees before those that came before it: stlr x, [x]."""
+    return word & 0xfffffc00 == 0xc89ffc00
+
+
+def plain_stores(steps):
+    """How many stores of eight bytes and more are no release, but for those on the stack (base register 31): str x, and stp x, x."""
+    pairs = [word for word, _ in steps if word & 0xfe400000 == 0xa8000000 and (word >> 5) & 31 != 31]
+    return len(pairs) + sum(f is not None and f[0] == 8 and not f[1] and f[2] != 31 for f in (one_register(word) for word, _ in steps))
+
+
 def steps(functions, name):
     """A function's instructions in the order of the code, its callees' in the place of a call; each with the name of a callee that is
     not among these functions."""
@@ -127,9 +138,9 @@ def steps(functions, name):
             yield word, callee
 
 
-def writes_to_ram(steps):
+def writes_to_ram(steps, stores):
     """C for a frame cleared, S for a descriptor stored, ? for a call of something else."""
-    return "".join({None: "S" if stores_descriptor(word) else "", "memset": "C"}.get(callee, "?") for word, callee in steps)
+    return "".join({None: "S" if stores(word) else "", "memset": "C"}.get(callee, "?") for word, callee in steps)
 
 
 # What a function clears and stores. In map a new table is cleared before it is linked, and the page's entry comes last; set-up clears
@@ -141,8 +152,8 @@ READS = {"pageledger_map": 2, "pageledger_unmap": 2, "pageledger_both_stages": 1
 WALKS = {"pageledger_stage2", "pageledger_both_stages"}
 
 
-def check_functions(say, functions):
-    """Arm: each descriptor is read by one load and written by one store."""
+def check_functions(say, functions, stores):
+    """Arm: each descriptor is read by one load and written by one store, of the kind that `stores` knows."""
     words = [word for function in functions.values() for word in function.words]
     say("has code", None if len(words) > 100 else f"{len(words)} instructions")
     exported = {name: list(steps(functions, name)) for name in functions if name.startswith("pageledger_")}
@@ -151,9 +162,14 @@ def check_functions(say, functions):
     say("reads RAM by no load of fewer than 64 bits", found)
     wrong = [name for name, least in READS.items() if sum(loads_descriptor(word) for word, _ in exported[name]) < least]
     say("reads a descriptor by one 64-bit load", wrong and f"{', '.join(wrong)}: too few ldr x, [x, x]")
-    wrote = {name: writes_to_ram(s) for name, s in exported.items()}
+    wrote = {name: writes_to_ram(s, stores) for name, s in exported.items()}
     wrong = [f"{name} writes '{what}'" for name, what in wrote.items() if not re.fullmatch(WRITES.get(name, ""), what)]
     say("writes a descriptor by one 64-bit store, and links a table once it is cleared", ", ".join(wrong))
+    if stores is releases_descriptor:
+        wrong = [name for name, what in WRITES.items() if "S" in what and plain_stores(exported[name])]
+        wrong += [name for name, s in exported.items() if any(stores_descriptor(word) for word, _ in s)]
+        wrong = ", ".join(sorted(set(wrong)))
+        say("writes no descriptor but by a store-release", wrong and f"{wrong}: a plain 64-bit store, not the stack's")
     say("calls back nobody", "there is a call of a register" if any(map(calls_register, words)) else None)
     say("divides nothing", "there are divisions" if any(map(divides, words)) else None)
 
@@ -194,7 +210,8 @@ def check_archive(count, folder, machine, functions):
         say("has no helpers", listed(o.name for o in helpers))
     if machine != AARCH64:
         return
-    check_functions(say, {name: f for o in ours for name, f in o.functions.items()})
+    stores = releases_descriptor if folder == "aarch64-none-elf" else stores_descriptor
+    check_functions(say, {name: f for o in ours for name, f in o.functions.items()}, stores)
     wanted = set().union(*(o.wanted for o in objects)) - set().union(*(o.defined for o in objects))
     check_stack(say, folder, {name: f for o in objects for name, f in o.functions.items()}, wanted)
 

@@ -125,8 +125,8 @@ macro_rules! question {
 
 impl<'a> Monitor<'a> {
     /// RAM of `frames` frames from the physical address `base` on, the first `monitor_frames` of them the monitor's, and a ledger of
-    /// `ledger_words(frames)` words. Refused with `NoFrame` where anything does not fit, and then nothing has changed. RAM is not
-    /// written.
+    /// `ledger_words(frames)` words. Refused with `NoFrame` where anything does not fit, or RAM does not lie at a multiple of 8,
+    /// and then nothing has changed. RAM is not written.
     ///
     /// # Safety
     /// `ram` is valid for reads and writes of `ram_length` bytes, and the ledger is not among them. And for as long as the monitor
@@ -134,7 +134,8 @@ impl<'a> Monitor<'a> {
     /// - now, once per boot, the processors keep no translation of any guest;
     /// - nobody but the monitor writes a table or a frame that was one and drains; guests write what they reach, and the host, between
     ///   calls, pages, free frames and the monitor's;
-    /// - no core runs a guest while `map` works for it, and a barrier follows; a guest runs only while it exists, with its root;
+    /// - a guest runs only while it exists, with its root, after a barrier; over an archive that is not for bare metal, not while `map`
+    ///   works for it;
     /// - `invalidated` is called only when every core has forgotten all of that guest's translations.
     pub unsafe fn set_up(
         ram: NonNull<u8>,
@@ -144,6 +145,10 @@ impl<'a> Monitor<'a> {
         frames: u64,
         monitor_frames: u64,
     ) -> Result<Monitor<'a>, Refusal> {
+        // On bare metal a descriptor is stored by a store-release, which wants it; the library itself can't see where RAM lies.
+        if ram.as_ptr() as usize % align_of::<u64>() != 0 {
+            return Err(Refusal::NoFrame);
+        }
         let (words, length) = (ledger.as_mut_ptr(), ledger.len());
         // SAFETY: both arrays are valid for their lengths, and the ledger is lent to nobody else.
         done(unsafe { raw::pageledger_set_up(ram.as_ptr(), ram_length, words, length, base, frames, monitor_frames) })?;

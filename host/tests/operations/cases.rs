@@ -130,6 +130,13 @@ fn set_up() {
     for n in [0, 15, 65_536, 65_537] {
         set_up_once(Shape { b: 0x40000000, n, k: n / 2 }, 4096 * n as usize, ledger_words(n));
     }
+    let (mut words, mut ledger) = (vec![0u64; 16 * 512 + 1], vec![0; ledger_words(16)]);
+    // SAFETY: bytes of these words.
+    let bytes = unsafe { words.align_to_mut::<u8>().1 };
+    for place in 0..=8 {
+        let answer = pageledger::Monitor::simulated(&mut bytes[place..place + 16 * 4096], &mut ledger, 0x40000000, 16, 2);
+        assert_eq!(answer.err(), if place % 8 == 0 { None } else { Some(Refusal::NoFrame) }, "RAM at {place} of 8");
+    }
 }
 
 /// The most frames, with the highest addresses, and a page that is mapped in many places.
