@@ -17,7 +17,6 @@ use script_machine::HEADER_WORDS;
 use script_machine::Machine;
 use script_machine::ROW_WORDS;
 use script_machine::Reply;
-use script_print::answers::NAME_BYTES;
 use script_print::answers::Text;
 use script_print::answers::put_answer;
 use script_print::answers::put_text;
@@ -28,65 +27,65 @@ use script_text::digits::put;
 use script_text::digits::put_decimal;
 use script_text::digits::put_word;
 
-const UNKNOWN_COMMAND: [u8; NAME_BYTES] = *b"unknown command     ";
+const UNKNOWN_COMMAND: Text = Text {
+    bytes: *b"unknown command     ",
+    length: 15,
+};
 
-const TOO_FEW_WORDS: [u8; NAME_BYTES] = *b"too few words       ";
+const TOO_FEW_WORDS: Text = Text {
+    bytes: *b"too few words       ",
+    length: 13,
+};
 
-const TOO_MANY_WORDS: [u8; NAME_BYTES] = *b"too many words      ";
+const TOO_MANY_WORDS: Text = Text {
+    bytes: *b"too many words      ",
+    length: 14,
+};
 
-const NUMBER_EXPECTED: [u8; NAME_BYTES] = *b"number expected     ";
+const NUMBER_EXPECTED: Text = Text {
+    bytes: *b"number expected     ",
+    length: 15,
+};
 
-const NUMBER_TOO_LARGE: [u8; NAME_BYTES] = *b"number too large    ";
+const NUMBER_TOO_LARGE: Text = Text {
+    bytes: *b"number too large    ",
+    length: 16,
+};
 
-const ACCESS_EXPECTED: [u8; NAME_BYTES] = *b"access is r, w or x ";
+const ACCESS_EXPECTED: Text = Text {
+    bytes: *b"access is r, w or x ",
+    length: 19,
+};
 
-const LEVEL_EXPECTED: [u8; NAME_BYTES] = *b"level is el0 or el1 ";
+const LEVEL_EXPECTED: Text = Text {
+    bytes: *b"level is el0 or el1 ",
+    length: 19,
+};
 
-const NOT_TEXT: [u8; NAME_BYTES] = *b"not text            ";
+const NOT_TEXT: Text = Text {
+    bytes: *b"not text            ",
+    length: 8,
+};
 
-const LINE_TOO_LONG: [u8; NAME_BYTES] = *b"line too long       ";
+const LINE_TOO_LONG: Text = Text {
+    bytes: *b"line too long       ",
+    length: 13,
+};
 
 // A reason in words.
 fn reason_text(why: Reason) -> Text
     ensures { λ r. ⌜ Holds-text r (reason-text why) ⌝ }
 {
     match why {
-        Reason::UnknownCommand => Text {
-            bytes: UNKNOWN_COMMAND,
-            length: 15,
-        },
-        Reason::TooFewWords => Text {
-            bytes: TOO_FEW_WORDS,
-            length: 13,
-        },
-        Reason::TooManyWords => Text {
-            bytes: TOO_MANY_WORDS,
-            length: 14,
-        },
-        Reason::NumberExpected => Text {
-            bytes: NUMBER_EXPECTED,
-            length: 15,
-        },
-        Reason::NumberTooLarge => Text {
-            bytes: NUMBER_TOO_LARGE,
-            length: 16,
-        },
-        Reason::AccessExpected => Text {
-            bytes: ACCESS_EXPECTED,
-            length: 19,
-        },
-        Reason::LevelExpected => Text {
-            bytes: LEVEL_EXPECTED,
-            length: 19,
-        },
-        Reason::NotText => Text {
-            bytes: NOT_TEXT,
-            length: 8,
-        },
-        Reason::LineTooLong => Text {
-            bytes: LINE_TOO_LONG,
-            length: 13,
-        },
+        Reason::UnknownCommand => UNKNOWN_COMMAND,
+        Reason::TooFewWords => TOO_FEW_WORDS,
+        Reason::TooManyWords => TOO_MANY_WORDS,
+        Reason::NumberExpected => NUMBER_EXPECTED,
+        Reason::NumberTooLarge => NUMBER_TOO_LARGE,
+        Reason::AccessExpected => ACCESS_EXPECTED,
+        Reason::LevelExpected => LEVEL_EXPECTED,
+        Reason::NotText => NOT_TEXT,
+        Reason::LineTooLong => LINE_TOO_LONG,
     }
 }
 

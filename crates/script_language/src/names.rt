@@ -162,37 +162,33 @@ pub fn access_and_level(v: CommandName) -> usize
 fn operation_with(d: OperationName, a: [u64; MOST_ARGUMENTS]) -> Operation
     ensures { λ r. ⌜ r ≡ operation-with d (argument-at a) ⌝ }
 {
-    let x = a[0];
-    let y = a[1];
-    let z = a[2];
-    let w = a[3];
     match d {
-        OperationName::Creating => Operation::Create { guest: x },
-        OperationName::Giving => Operation::Give { frame: x, guest: y },
+        OperationName::Creating => Operation::Create { guest: a[0] },
+        OperationName::Giving => Operation::Give { frame: a[0], guest: a[1] },
         OperationName::Mapping => Operation::Map {
-            frame: x,
-            guest: y,
-            address: z,
-            rights: w,
+            frame: a[0],
+            guest: a[1],
+            address: a[2],
+            rights: a[3],
         },
         OperationName::Unmapping => Operation::Unmap {
-            address: x,
-            guest: y,
+            address: a[0],
+            guest: a[1],
         },
         OperationName::Sharing => Operation::Share {
-            owner: x,
-            frame: y,
-            with: z,
-            writing: w,
+            owner: a[0],
+            frame: a[1],
+            with: a[2],
+            writing: a[3],
         },
         OperationName::Unsharing => Operation::Unshare {
-            owner: x,
-            frame: y,
-            with: z,
+            owner: a[0],
+            frame: a[1],
+            with: a[2],
         },
-        OperationName::Taking => Operation::Take { frame: x, guest: y },
-        OperationName::Destroying => Operation::Destroy { guest: x },
-        OperationName::Invalidating => Operation::Invalidated { guest: x },
+        OperationName::Taking => Operation::Take { frame: a[0], guest: a[1] },
+        OperationName::Destroying => Operation::Destroy { guest: a[0] },
+        OperationName::Invalidating => Operation::Invalidated { guest: a[0] },
     }
 }
 
@@ -200,39 +196,36 @@ fn operation_with(d: OperationName, a: [u64; MOST_ARGUMENTS]) -> Operation
 pub fn command_with(v: CommandName, a: [u64; MOST_ARGUMENTS]) -> Command
     ensures { λ r. ⌜ r ≡ command-with v (argument-at a) ⌝ }
 {
-    let x = a[0];
-    let y = a[1];
-    let z = a[2];
     match v {
         CommandName::Setup => Command::SetUp {
-            frames: x,
-            base: y,
-            monitor: z,
+            frames: a[0],
+            base: a[1],
+            monitor: a[2],
         },
         CommandName::Word => Command::StoreWord {
-            address: x,
-            value: y,
+            address: a[0],
+            value: a[1],
         },
-        CommandName::Peek => Command::Ask(Question::PeekWord { address: x }),
+        CommandName::Peek => Command::Ask(Question::PeekWord { address: a[0] }),
         CommandName::Stage2 => Command::Ask(Question::WalkStage2 {
-            root: x,
-            ipa: y,
-            access: z,
+            root: a[0],
+            ipa: a[1],
+            access: a[2],
         }),
         CommandName::Walk => Command::Ask(Question::WalkBoth {
-            root1: x,
-            root2: y,
-            va: z,
+            root1: a[0],
+            root2: a[1],
+            va: a[2],
             access: a[3],
             el: a[4],
         }),
         CommandName::Translation => Command::Ask(Question::Translate {
-            guest: x,
-            ipa: y,
-            access: z,
+            guest: a[0],
+            ipa: a[1],
+            access: a[2],
         }),
-        CommandName::OneFrame => Command::Ask(Question::Frame { frame: x }),
-        CommandName::OneGuest => Command::Ask(Question::Guest { guest: x }),
+        CommandName::OneFrame => Command::Ask(Question::Frame { frame: a[0] }),
+        CommandName::OneGuest => Command::Ask(Question::Guest { guest: a[0] }),
         CommandName::WholeLedger => Command::Ask(Question::Ledger),
         CommandName::Operating(d) => Command::Operate(operation_with(d, a)),
     }

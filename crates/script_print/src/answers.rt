@@ -10,7 +10,7 @@ use walk::Answer;
 use walk::FaultKind;
 
 // The array of a short text, filled up with spaces.
-pub const NAME_BYTES: usize = 20;
+const NAME_BYTES: usize = 20;
 
 // A short text: the first `length` bytes.
 pub struct Text {
@@ -18,41 +18,41 @@ pub struct Text {
     pub length: usize,
 }
 
-const WALK_ABORT: [u8; NAME_BYTES] = *b"WALK_ABORT          ";
+const WALK_ABORT: Text = Text {
+    bytes: *b"WALK_ABORT          ",
+    length: 10,
+};
 
-const TRANSLATION: [u8; NAME_BYTES] = *b"TRANSLATION         ";
+const TRANSLATION: Text = Text {
+    bytes: *b"TRANSLATION         ",
+    length: 11,
+};
 
-const NOT_MODELLED: [u8; NAME_BYTES] = *b"NOT_MODELLED        ";
+const NOT_MODELLED: Text = Text {
+    bytes: *b"NOT_MODELLED        ",
+    length: 12,
+};
 
-const ACCESS_FLAG: [u8; NAME_BYTES] = *b"ACCESS_FLAG         ";
+const ACCESS_FLAG: Text = Text {
+    bytes: *b"ACCESS_FLAG         ",
+    length: 11,
+};
 
-const PERMISSION: [u8; NAME_BYTES] = *b"PERMISSION          ";
+const PERMISSION: Text = Text {
+    bytes: *b"PERMISSION          ",
+    length: 10,
+};
 
 // A fault by its name.
 fn kind_text(k: FaultKind) -> Text
     ensures { λ r. ⌜ Holds-text r (kind-text k) ⌝ }
 {
     match k {
-        FaultKind::WalkAbort => Text {
-            bytes: WALK_ABORT,
-            length: 10,
-        },
-        FaultKind::Translation => Text {
-            bytes: TRANSLATION,
-            length: 11,
-        },
-        FaultKind::NotModelled => Text {
-            bytes: NOT_MODELLED,
-            length: 12,
-        },
-        FaultKind::AccessFlag => Text {
-            bytes: ACCESS_FLAG,
-            length: 11,
-        },
-        FaultKind::Permission => Text {
-            bytes: PERMISSION,
-            length: 10,
-        },
+        FaultKind::WalkAbort => WALK_ABORT,
+        FaultKind::Translation => TRANSLATION,
+        FaultKind::NotModelled => NOT_MODELLED,
+        FaultKind::AccessFlag => ACCESS_FLAG,
+        FaultKind::Permission => PERMISSION,
     }
 }
 

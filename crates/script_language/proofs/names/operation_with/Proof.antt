@@ -5,44 +5,92 @@ use borrow.Author.Needs.{needs}
 use Rattle.script_language.proofs.names.operation_with.Statement.{statement}
 use Rattle.script_language.proofs.names.operation_with.Tie as tie
 
-array-read-x : tie.Need-array-read-x
-array-read-x c = search needs
-
-array-read-y : tie.Need-array-read-y
-array-read-y c = search needs
-
-array-read-z : tie.Need-array-read-z
-array-read-z c = search needs
-
-array-read-w : tie.Need-array-read-w
-array-read-w c = search needs
-
 enum-told : tie.Need-enum-told
 enum-told c = search needs
+
+array-read-t7 : tie.Need-array-read-t7
+array-read-t7 c = search needs
 
 enum-told-2 : tie.Need-enum-told-2
 enum-told-2 c = search needs
 
+array-read-t10 : tie.Need-array-read-t10
+array-read-t10 c = search needs
+
+array-read-t13 : tie.Need-array-read-t13
+array-read-t13 c = search needs
+
 enum-told-3 : tie.Need-enum-told-3
 enum-told-3 c = search needs
+
+array-read-t16 : tie.Need-array-read-t16
+array-read-t16 c = search needs
+
+array-read-t19 : tie.Need-array-read-t19
+array-read-t19 c = search needs
+
+array-read-t22 : tie.Need-array-read-t22
+array-read-t22 c = search needs
+
+array-read-t25 : tie.Need-array-read-t25
+array-read-t25 c = search needs
 
 enum-told-4 : tie.Need-enum-told-4
 enum-told-4 c = search needs
 
+array-read-t28 : tie.Need-array-read-t28
+array-read-t28 c = search needs
+
+array-read-t31 : tie.Need-array-read-t31
+array-read-t31 c = search needs
+
 enum-told-5 : tie.Need-enum-told-5
 enum-told-5 c = search needs
+
+array-read-t34 : tie.Need-array-read-t34
+array-read-t34 c = search needs
+
+array-read-t37 : tie.Need-array-read-t37
+array-read-t37 c = search needs
+
+array-read-t40 : tie.Need-array-read-t40
+array-read-t40 c = search needs
+
+array-read-t43 : tie.Need-array-read-t43
+array-read-t43 c = search needs
 
 enum-told-6 : tie.Need-enum-told-6
 enum-told-6 c = search needs
 
+array-read-t46 : tie.Need-array-read-t46
+array-read-t46 c = search needs
+
+array-read-t49 : tie.Need-array-read-t49
+array-read-t49 c = search needs
+
+array-read-t52 : tie.Need-array-read-t52
+array-read-t52 c = search needs
+
 enum-told-7 : tie.Need-enum-told-7
 enum-told-7 c = search needs
+
+array-read-t55 : tie.Need-array-read-t55
+array-read-t55 c = search needs
+
+array-read-t58 : tie.Need-array-read-t58
+array-read-t58 c = search needs
 
 enum-told-8 : tie.Need-enum-told-8
 enum-told-8 c = search needs
 
+array-read-t61 : tie.Need-array-read-t61
+array-read-t61 c = search needs
+
 enum-told-9 : tie.Need-enum-told-9
 enum-told-9 c = search needs
+
+array-read-t64 : tie.Need-array-read-t64
+array-read-t64 c = search needs
 
 returns : tie.Need-returns
 unfolding operation-with
@@ -84,19 +132,35 @@ pub operation-with-spec : {M : Type 1} → statement M
 operation-with-spec =
     tie.close
     (tie.spec
-    array-read-x
-    array-read-y
-    array-read-z
-    array-read-w
     enum-told
+    array-read-t7
     enum-told-2
+    array-read-t10
+    array-read-t13
     enum-told-3
+    array-read-t16
+    array-read-t19
+    array-read-t22
+    array-read-t25
     enum-told-4
+    array-read-t28
+    array-read-t31
     enum-told-5
+    array-read-t34
+    array-read-t37
+    array-read-t40
+    array-read-t43
     enum-told-6
+    array-read-t46
+    array-read-t49
+    array-read-t52
     enum-told-7
+    array-read-t55
+    array-read-t58
     enum-told-8
+    array-read-t61
     enum-told-9
+    array-read-t64
     returns
     returns-2
     returns-3
