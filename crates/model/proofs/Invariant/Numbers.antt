@@ -28,17 +28,17 @@ run-same {m} r h = run-keeps (Same-place (m .state)) answered written r h (recor
     written m h p g f o x n b a = unfold stored in record { first = p .first; size = p .size }
 
 -- "n frames [..], 16 <= n <= 65,536, from physical address b, a multiple of 4,096"
-pub record Place (n b : ℕ) (s : State) : Type 0 where
+pub record Place (b n : ℕ) (s : State) : Type 0 where
   pub least : 16 ≤ n
   pub most : n ≤ 65536
   pub base : b ≡ 4096 * s .first
   pub size : s .size ≡ n
 
-module _ (n b k : ℕ) (w : ℕ → ℕ → ℕ) where
+module _ (b n k : ℕ) (w : ℕ → ℕ → ℕ) where
   abbrev fits : Bool
   fits = true && leb 16 n && leb n 65536 && eqb (b % 4096) 0 && leb (b + 4096 * n) 0x1000000000000 && ltb k n
 
-  started-place : fits ≡ true → Place n b (started n b k w)
+  started-place : fits ≡ true → Place b n (started b n k w)
   unfolding started
   started-place q =
       let t1 = and-true (true && leb 16 n && leb n 65536 && eqb (b % 4096) 0 && leb (b + 4096 * n) 0x1000000000000) (ltb k n) q .0 in
@@ -48,15 +48,15 @@ module _ (n b k : ℕ) (w : ℕ → ℕ → ℕ) where
       let whole = eqb-true (b % 4096) 0 (t3 .1) in
       record { least = leb-true 16 n (t4 .0); most = leb-true n 65536 (t4 .1); base = omega arith; size = refl }
 
-  set-up-place : (s : State) → set-up true n b k w ≡ done s → Place n b s
-  set-up-place s e = then-is (set-up true n b k w) s accepted e
+  set-up-place : (s : State) → set-up true b n k w ≡ done s → Place b n s
+  set-up-place s e = then-is (set-up true b n k w) s accepted e
     where
-      accepted : Then (Place n b) (set-up true n b k w)
+      accepted : Then (Place b n) (set-up true b n k w)
       accepted = unfold set-up in checked 4 λ q. then-done (started-place q)
 
-pub placed : {m z : Machine} (x : SetUp m) → Run m z → Place (x .n) (x .b) (z .state)
+pub placed : {m z : Machine} (x : SetUp m) → Run m z → Place (x .b) (x .n) (z .state)
 placed {m} {z} x r =
-    let a = set-up-place (x .n) (x .b) (x .k) (x .word) (m .state) (x .accepted) in
+    let a = set-up-place (x .b) (x .n) (x .k) (x .word) (m .state) (x .accepted) in
     let b = run-same r (set-up-holds x) in
     record { least = a .least; most = a .most; base = a .base ∙ ap (λ (u : ℕ). 4096 * u) (sym (b .first)); size = b .size ∙ a .size }
 
