@@ -1,5 +1,6 @@
 -- Written by tools/prove from the file answers beside it: edit that, and not this.
 -- Each test is one of the definition's.
+use mathlib.Core.Path.{_∙_, sym}
 use Rattle.monitor.proofs.Laws.SetUp.{few-frames, many-frames, uneven, too-high, none-left, bad-ram, bad-ledger, fits-all}
 use borrow.Author.Needs.{needs}
 use native.Mathlib.Omega.{arith}
@@ -33,17 +34,15 @@ mul-if6 c = search needs
 returns-6 : tie.Need-returns-6
 returns-6 c = bad-ram _ _ _ _ _ (c .if6 .taken)
 
-mul-if7 : tie.Need-mul-if7
-mul-if7 c = search needs
-
-add-if7 : tie.Need-add-if7
-add-if7 c = search needs
+words-for-requires : tie.Need-words-for-requires
+words-for-requires c κs = search needs
 
 returns-7 : tie.Need-returns-7
-returns-7 c = bad-ledger _ _ _ _ _ (c .if7 .taken)
+returns-7 c = bad-ledger _ _ _ _ _ (λ e. c .if7 .taken (e ∙ sym (c .before .words-for .ensures)))
 
 returns-8 : tie.Need-returns-8
-returns-8 c = fits-all _ _ _ _ _ (c .before .if6 .left) (c .if7 .left) (c .before .before .before .before .before .before .if1 .left) (c .before .before .before .before .before .if2 .left) (c .before .before .before .before .if3 .left) (omega (arith, c .before .before .before .if4 .left, c .before .before .before .before .before .if2 .left)) (c .before .before .if5 .left)
+returns-8 c = fits-all _ _ _ _ _ (c .before .before .if6 .left) (c .if7 .left ∙ c .before .words-for .ensures) (c .before .before .before .before .before .before .before .if1 .left) (c .before .before .before .before .before .before .if2 .left) (c .before .before .before .before .before .if3 .left)
+    (omega (arith, c .before .before .before .before .if4 .left, c .before .before .before .before .before .before .if2 .left)) (c .before .before .before .if5 .left)
 
 pub check-set-up-spec : {M : Type 1} → statement M
 check-set-up-spec =
@@ -58,7 +57,6 @@ check-set-up-spec =
     returns-5
     mul-if6
     returns-6
-    mul-if7
-    add-if7
+    words-for-requires
     returns-7
     returns-8)
