@@ -19,9 +19,9 @@ use monitor::start;
 
 #[no_mangle]
 pub extern "C" fn pageledger_set_up(ram: &[u8], ledger: &mut [u32], n: u64, b: u64, k: u64) -> u64
-    ensures { λ r. ⌜ SetUp n b k (now (ram .entry)) (now (ledger .entry)) r (now (ledger .exit)) ⌝ }
+    ensures { λ r. ⌜ SetUp b n k (now (ram .entry)) (now (ledger .entry)) r (now (ledger .exit)) ⌝ }
 {
-    start::set_up(ram, ledger, n, b, k)
+    start::set_up(ram, ledger, b, n, k)
 }
 
 #[no_mangle]
@@ -61,7 +61,7 @@ pub extern "C" fn pageledger_map(
 pub extern "C" fn pageledger_unmap(ram: &mut [u8], ledger: &mut [u32], a: u64, g: u64) -> u64
     requires { ⌜ Sound (now ram) (now ledger) ⌝ }
     ensures { λ r. ⌜ Answers (unmapping a g) (now (ram .entry)) (now (ledger .entry)) r (now (ram .exit)) (now (ledger .exit)) ⌝ }
-    ensures { λ r. ⌜ (r ≡ 0 → Translates (Unmap g a) (now (ram .entry)) (now (ledger .entry)) (now (ram .exit)) (now (ledger .exit))) ⌝ }
+    ensures { λ r. ⌜ (r ≡ 0 → Translates (Unmap a g) (now (ram .entry)) (now (ledger .entry)) (now (ram .exit)) (now (ledger .exit))) ⌝ }
     ensures { λ r. ⌜ (r ≡ 0 → Finds g a none (now (ram .exit)) (now (ledger .exit))) ⌝ }
 {
     monitor::unmap(ram, ledger, a, g)

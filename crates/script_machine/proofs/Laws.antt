@@ -11,7 +11,7 @@ use borrow.Author.Tests.{leb-true, ltb-true, eqb-true, ne-eqb}
 use Rattle.memory.specs.Word.{stored-at, cleared-at}
 use Rattle.memory.proofs.Laws.Words.{length-kept, cleared-length}
 use Rattle.model.specs.State.{Frame-kind, monitor, free, table, draining-table, page, draining-page, tabled}
-use Rattle.model.specs.State.{sort}
+use Rattle.model.specs.State.{kind-number, DRAINING-TABLE, TABLE}
 use Rattle.ledger.specs.Layout.{words-for, first-of, kind-of}
 use Rattle.ledger.specs.Sound.{Sound}
 use Rattle.ledger.proofs.Laws.Beside.{word-beside}
@@ -75,7 +75,7 @@ allowed lent words n b k e =
     }
 
 -- a frame that holds a table, by the number of what it is
-by-sort : (x : Frame-kind) → tabled x ≡ (eqb (sort x) 2 || eqb (sort x) 3)
+by-sort : (x : Frame-kind) → tabled x ≡ (eqb (kind-number x) TABLE || eqb (kind-number x) DRAINING-TABLE)
 by-sort monitor = refl
 by-sort free = refl
 by-sort (table g h p) = refl
@@ -83,7 +83,7 @@ by-sort (draining-table g h p) = refl
 by-sort (page g) = refl
 by-sort (draining-page g) = refl
 
-module _ (l : List ℕ) (f k : ℕ) (e : k ≡ sort (kind-of l f)) where
+module _ (l : List ℕ) (f k : ℕ) (e : k ≡ kind-number (kind-of l f)) where
   pub in-use : k ≡ 2 → true ≡ tabled (kind-of l f)
   in-use q = sym (by-sort (kind-of l f) ∙ rw (sym e, q))
 
@@ -123,10 +123,10 @@ module _ (n b k : ℕ) (m : Machine) (ram l : List ℕ) (e : allowed-of (length 
   abbrev fits : Allowed (length ram / 4096) (length l) n b k
   fits = allowed (length ram / 4096) (length l) n b k e
 
-  pub begun : (answer : ℕ) (ram′ l₁ l′ : List ℕ) → ram′ ≡ cleared-at ram 0 (4096 * n) → S.SetUp n b k (take (4096 * n) ram′) (take (words-for n) l) answer l₁ →
+  pub begun : (answer : ℕ) (ram′ l₁ l′ : List ℕ) → ram′ ≡ cleared-at ram 0 (4096 * n) → S.SetUp b n k (take (4096 * n) ram′) (take (words-for n) l) answer l₁ →
       length l₁ ≡ length (take (words-for n) l) → l′ ≡ l₁ ++ drop (words-for n) l → Executed (SetUp n b k) m ram l ram′ l′ (outcome (machine-of n b true) (Code answer))
   begun answer ram′ l₁ l′ c x len f = record {
-    does = rw e (ap (λ (z : ℕ). outcome (machine-of n b true) (Code z)) zero, record { cleared = c; started = rw ledger-is (subst (λ (z : ℕ). S.SetUp n b k (take (4096 * n) ram′) (take (words-for n) l) z l₁) zero x); rest = rw f (rest _ l l₁ (fits .room) len) });
+    does = rw e (ap (λ (z : ℕ). outcome (machine-of n b true) (Code z)) zero, record { cleared = c; started = rw ledger-is (subst (λ (z : ℕ). S.SetUp b n k (take (4096 * n) ram′) (take (words-for n) l) z l₁) zero x); rest = rw f (rest _ l l₁ (fits .room) len) });
     kept = record { within = ram-within; sound = λ _. rw ledger-is (x .sound zero); based = λ _. rw ledger-is based };
   }
     where

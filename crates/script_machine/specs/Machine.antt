@@ -68,7 +68,7 @@ Says x m ram l ram′ l′ r = (r ≡ outcome m x) × (ram′ ≡ ram) × (l′ 
 -- `setup N B K`: "On 0 the RAM is all zero"; the ledger is what the monitor's set-up makes, in its part of the slice
 pub record Begun (n b k : ℕ) (ram l ram′ l′ : List ℕ) : Type 0 where
   pub cleared : ram′ ≡ cleared-at ram 0 (4096 * n)
-  pub started : Start.SetUp n b k (take (4096 * n) ram′) (take (words-for n) l) 0 (take (words-for n) l′)
+  pub started : Start.SetUp b n k (take (4096 * n) ram′) (take (words-for n) l) 0 (take (words-for n) l′)
   pub rest : drop (words-for n) l′ ≡ drop (words-for n) l
 
 abbrev pub Begins : Bool → (n b k : ℕ) → Machine → (ram ledger ram′ ledger′ : List ℕ) → Outcome → Type 0

@@ -51,7 +51,7 @@ pub fn set_up(
         let n = 4096 * frames as usize;
         let w = 144 + 16 * frames as usize;
         memory::clear(ram, 0, n);
-        let answer = monitor::start::set_up(&ram[..n], &mut ledger[..w], frames, base, monitor);
+        let answer = monitor::start::set_up(&ram[..n], &mut ledger[..w], base, frames, monitor);
         return Outcome {
             machine: Machine {
                 frames,
