@@ -26,9 +26,9 @@ pub extern "C" fn pageledger_set_up(
     frames: u64,
     reserved: u64,
 ) -> u64
-    ensures { λ r. ⌜ SetUp frames base reserved (now (ram .entry)) (now (ledger .entry)) r (now (ledger .exit)) ⌝ }
+    ensures { λ r. ⌜ SetUp base frames reserved (now (ram .entry)) (now (ledger .entry)) r (now (ledger .exit)) ⌝ }
 {
-    start::set_up(ram, ledger, frames, base, reserved)
+    start::set_up(ram, ledger, base, frames, reserved)
 }
 
 #[no_mangle]
@@ -72,7 +72,7 @@ pub extern "C" fn pageledger_map(
 pub extern "C" fn pageledger_unmap(ram: &mut [u8], ledger: &mut [u32], ipa: u64, guest: u64) -> u64
     requires { ⌜ Sound (now ram) (now ledger) ⌝ }
     ensures { λ r. ⌜ Answers (unmapping ipa guest) (now (ram .entry)) (now (ledger .entry)) r (now (ram .exit)) (now (ledger .exit)) ⌝ }
-    ensures { λ r. ⌜ (r ≡ 0 → Translates (Unmap guest ipa)
+    ensures { λ r. ⌜ (r ≡ 0 → Translates (Unmap ipa guest)
         (now (ram .entry)) (now (ledger .entry)) (now (ram .exit)) (now (ledger .exit))) ⌝ }
     ensures { λ r. ⌜ (r ≡ 0 → Finds guest ipa none (now (ram .exit)) (now (ledger .exit))) ⌝ }
 {

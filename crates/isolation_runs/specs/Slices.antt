@@ -71,5 +71,5 @@ pub record Begun (x : Slices) : Type 1 where
   pub b : ℕ
   pub k : ℕ
   pub ledger-before : List ℕ
-  pub answered : SetUp n b k (x .ram) ledger-before 0 (x .ledger)
+  pub answered : SetUp b n k (x .ram) ledger-before 0 (x .ledger)
   pub fresh : x .caches ≡ nothing-kept

@@ -5,7 +5,8 @@ use Rattle.model.specs.Base.{upd, upd2}
 use Rattle.model.specs.State.{State, Frame-kind}
 use Rattle.model.specs.Changes.{zeros}
 
-unfoldable pub remade : State → (kind : ℕ → Frame-kind) (shared count : ℕ → ℕ → ℕ) (exists : ℕ → Bool) (root : ℕ → ℕ) (dirty : ℕ → Bool) (word : ℕ → ℕ → ℕ) → State
+unfoldable pub remade : State → (kind : ℕ → Frame-kind) (shared count : ℕ → ℕ → ℕ) (exists : ℕ → Bool) (root : ℕ → ℕ) (dirty : ℕ → Bool)
+    (word : ℕ → ℕ → ℕ) → State
 remade s k sh c e r d w = record {
   size = s .size;
   first = s .first;

@@ -3,12 +3,13 @@
 use mathlib.Core.Path.{_≡_}
 use Prim.Native.Nat.{ℕ, _-_, _≤_, _<_}
 use lib.Dec.{eqb, ltb}
+use Rattle.model.specs.State.{FREE}
 
--- K: what a frame is, 1 where it is free
+-- K: what a frame is, FREE where it is free
 pub record Free-set (n : ℕ) (K D P : ℕ → ℕ) (count : ℕ) : Type 0 where
   pub few : count ≤ n
   pub d-low : (i : ℕ) → i < n → D i < n
   pub p-low : (f : ℕ) → f < n → P f < n
   pub p-d : (i : ℕ) → i < n → P (D i) ≡ i
   pub d-p : (f : ℕ) → f < n → D (P f) ≡ f
-  pub in-set : (f : ℕ) → f < n → eqb (K f) 1 ≡ ltb (P f) count
+  pub in-set : (f : ℕ) → f < n → eqb (K f) FREE ≡ ltb (P f) count

@@ -5,7 +5,8 @@ use mathlib.Core.List.{List}
 use Prim.Native.Nat.{ℕ, suc, _≤_}
 use lib.ListN.{length}
 use Rattle.model.specs.State.{State, Frame-kind}
-use Rattle.ledger.specs.Layout.{frames, guest-rows, words-for, room-for-frames, size-in, pick-of, state-of}
+use Rattle.ledger.specs.Columns.{room-for-frames, KIND, FRAME-AT, PLACE, FREE-COUNT, HEADER}
+use Rattle.ledger.specs.Layout.{frames, guest-rows, words-for, size-in, pick-of, state-of}
 use Rattle.ledger.specs.Fields.{with-kind}
 use Rattle.ledger.specs.FreeSet.{Free-set}
 
@@ -13,7 +14,7 @@ use Rattle.ledger.specs.FreeSet.{Free-set}
 pub record Rows-sound (len : ℕ) (F G : ℕ → ℕ → ℕ) : Type 0 where
   pub length-fits : len ≡ words-for (size-in G)
   pub few : size-in G ≤ room-for-frames
-  pub free-set : Free-set (size-in G) (F 0) (F 12) (F 13) (G 3 0)
+  pub free-set : Free-set (size-in G) (F KIND) (F FRAME-AT) (F PLACE) (G FREE-COUNT HEADER)
 
 abbrev pub Ledger-sound : List ℕ → Type 0
 Ledger-sound l = Rows-sound (length l) (frames l) (guest-rows l)

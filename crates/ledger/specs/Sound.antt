@@ -1,10 +1,10 @@
 -- What the operations of the monitor count on and keep, of the two lent slices.
--- The law of the choice is read off the free set; and a count of places always fits its cell.
 use mathlib.Core.Path.{_≡_}
 use mathlib.Core.List.{List}
 use Prim.Native.Nat.{ℕ, _*_, _-_}
 use lib.ListN.{length}
 use Rattle.model.specs.Invariant.{Core}
+use Rattle.ledger.specs.Columns.{FREE-COUNT, HEADER}
 use Rattle.ledger.specs.Layout.{guest-rows, size-of, state-of}
 use Rattle.ledger.specs.LedgerSound.{Ledger-sound}
 
@@ -15,4 +15,4 @@ pub record Sound (ram ledger : List ℕ) : Type 0 where
 
 -- how many frames are free
 abbrev pub free-of : List ℕ → ℕ
-free-of l = guest-rows l 3 0
+free-of l = guest-rows l FREE-COUNT HEADER

@@ -1,4 +1,4 @@
--- The words of a frame in RAM: what the stores of this crate do to them.
+-- RAM by frames: where a frame lies in it. The words of a frame: word-of, in Layout.
 use mathlib.Core.List.{List}
 use Prim.Native.Nat.{ℕ, _+_, _*_, _≤_}
 use lib.ListN.{length}

@@ -17,6 +17,23 @@ is-guest g = ltb 0 g && leb g guests
 abbrev pub page-count : ℕ
 page-count = 68719476736
 
+-- "1 read, 2 write, 4 execute, added up"; all rights have read
+abbrev pub WRITE : ℕ
+WRITE = 2
+
+abbrev pub EXECUTE : ℕ
+EXECUTE = 4
+
+-- what of a page is shared with a guest: nothing, reading, or writing too
+abbrev pub NOTHING : ℕ
+NOTHING = 0
+
+abbrev pub READING : ℕ
+READING = 1
+
+abbrev pub WRITING : ℕ
+WRITING = 2
+
 -- What a frame is. The height of a table is 3 at the root and 0 where the pages are (level 3 - height).
 -- Its range p: it serves the pages v of the guest with v / 512^(height + 1) = p.
 -- A frame that drains was a table or a page of the guest; its words are still what they were.
@@ -32,7 +49,7 @@ pub record State : Type 0 where
   pub first : ℕ
   -- of a frame
   pub kind : ℕ → Frame-kind
-  -- frame, guest: 0 not shared, 1 for reading, 2 for writing too
+  -- frame, guest: NOTHING, READING or WRITING
   pub shared : ℕ → ℕ → ℕ
   -- frame, guest: the number of places where the guest's tables lead to it
   pub count : ℕ → ℕ → ℕ
@@ -74,14 +91,32 @@ put-byte (suc k) w x = put-byte k (w / 256) x * 256 + w % 256
 unfoldable pub byte : State → ℕ → ℕ → ℕ
 byte s f o = byte-of (o % 8) (s .word f (o / 8))
 
--- the number of what a frame is, as the ledger stores it
-abbrev pub sort : Frame-kind → ℕ
-sort monitor = 0
-sort free = 1
-sort (table g h p) = 2
-sort (draining-table g h p) = 3
-sort (page g) = 4
-sort (draining-page g) = 5
+-- the numbers of what a frame is, as the ledger stores them
+abbrev pub MONITOR : ℕ
+MONITOR = 0
+
+abbrev pub FREE : ℕ
+FREE = 1
+
+abbrev pub TABLE : ℕ
+TABLE = 2
+
+abbrev pub DRAINING-TABLE : ℕ
+DRAINING-TABLE = 3
+
+abbrev pub PAGE : ℕ
+PAGE = 4
+
+abbrev pub DRAINING-PAGE : ℕ
+DRAINING-PAGE = 5
+
+abbrev pub kind-number : Frame-kind → ℕ
+kind-number monitor = MONITOR
+kind-number free = FREE
+kind-number (table g h p) = TABLE
+kind-number (draining-table g h p) = DRAINING-TABLE
+kind-number (page g) = PAGE
+kind-number (draining-page g) = DRAINING-PAGE
 
 -- tests of what a frame is
 abbrev pub is-free : Frame-kind → Bool

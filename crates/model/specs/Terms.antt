@@ -5,16 +5,16 @@ use mathlib.Core.Logic.{_⊎_}
 use mathlib.Core.Option.{Option, none, some}
 use Prim.Native.Nat.{ℕ, _+_, _/_}
 use lib.Dec.{eqb, leb}
-use Rattle.model.specs.State.{State, free, page, draining-page, byte}
+use Rattle.model.specs.State.{State, free, page, draining-page, byte, READING, WRITING}
 use Rattle.model.specs.Translate.{Page, translate}
 use Rattle.model.specs.Cache.{Access, reading, writing, executing}
 use Rattle.model.specs.Operations.{done}
 use Rattle.model.specs.Machine.{Machine, Reaches, Operation, Create, Give, Take, Map, Unmap, Share, Unshare, Destroy, Invalidated, answer, Chooses}
 
--- a page that is shared so (0 not, 1 for reading, 2 for writing too) may be accessed in this way; executing is never shared
+-- a page that is shared so may be accessed in this way; executing is never shared
 abbrev pub lends : ℕ → Access → Bool
-lends how reading = leb 1 how
-lends how writing = leb 2 how
+lends how reading = leb READING how
+lends how writing = leb WRITING how
 lends how executing = false
 
 -- somebody's page, shared with g for this access
@@ -31,7 +31,7 @@ expected s (Create g pick) h v = translate s h v
 expected s (Give f g) h v = translate s h v
 expected s (Take f g) h v = translate s h v
 expected s (Map f g a r pick) h v = cond (eqb h g && eqb v (a / 4096)) (some (f, r)) (translate s h v)
-expected s (Unmap g a) h v = cond (eqb h g && eqb v (a / 4096)) none (translate s h v)
+expected s (Unmap a g) h v = cond (eqb h g && eqb v (a / 4096)) none (translate s h v)
 expected s (Share g f g′ w) h v = translate s h v
 expected s (Unshare g f g′) h v = translate s h v
 expected s (Destroy g) h v = cond (eqb h g) none (translate s h v)
@@ -57,7 +57,7 @@ pub data Asked (P : State → Operation → Type 0) : State → State → Type 0
 
 -- What gets page f back to its owner g: unmapping it where it is mapped, invalidating, unsharing it, taking it.
 abbrev pub Reclaims : (f g : ℕ) → State → Operation → Type 0
-Reclaims f g s (Unmap h a) = (r : ℕ) × (translate s h (a / 4096) ≡ some (f, r))
+Reclaims f g s (Unmap a h) = (r : ℕ) × (translate s h (a / 4096) ≡ some (f, r))
 Reclaims f g s (Invalidated h) = Unit {0}
 Reclaims f g s (Unshare g′ f′ h) = (g′ ≡ g) × (f′ ≡ f)
 Reclaims f g s (Take f′ g′) = (f′ ≡ f) × (g′ ≡ g)

@@ -19,7 +19,7 @@ use Rattle.model_theorems.specs.TwoRunsApart.{same-reads}
 use Rattle.model_examples.specs.Lowest.{frees, free-at, lowest, lowest-chosen}
 
 unfoldable pub begins : (k w : ℕ) → Machine
-begins k w = record { state = started 16 0x40000000 k (λ f i. w); caches = nothing-kept }
+begins k w = record { state = started 0x40000000 16 k (λ f i. w); caches = nothing-kept }
 
 -- create a guest, give it a frame, map the frame at 0x1000 for reading and writing
 unfoldable pub created : (g : ℕ) → Machine → Machine
@@ -47,9 +47,9 @@ two (suc (suc (suc zero))) = created 1 (given 9 2 (created 2 (begins 3 7)))
 two (suc (suc (suc (suc zero)))) = given 10 1 (created 1 (given 9 2 (created 2 (begins 3 7))))
 two (suc (suc (suc (suc (suc n))))) = placed 10 1 (given 10 1 (created 1 (given 9 2 (created 2 (begins 3 7)))))
 
-begun : (k w : ℕ) → set-up true 16 0x40000000 k (λ f i. w) ≡ done (begins k w .state) → SetUp (begins k w)
+begun : (k w : ℕ) → set-up true 0x40000000 16 k (λ f i. w) ≡ done (begins k w .state) → SetUp (begins k w)
 unfolding begins
-begun k w e = record { n = 16; b = 0x40000000; k = k; word = λ f i. w; accepted = e; fresh = refl }
+begun k w e = record { b = 0x40000000; n = 16; k = k; word = λ f i. w; accepted = e; fresh = refl }
 
 pub one-begins : SetUp (one 0)
 unfolding one

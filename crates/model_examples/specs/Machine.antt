@@ -44,7 +44,7 @@ machine-0 = record { state = begin 2; caches = nothing-kept }
 
 pub set-up-0 : SetUp machine-0
 unfolding machine-0 begin
-set-up-0 = record { n = 16; b = 0x40000000; k = 2; word = λ f i. 1; accepted = unfold set-up check ram-fits in refl; fresh = refl }
+set-up-0 = record { b = 0x40000000; n = 16; k = 2; word = λ f i. 1; accepted = unfold set-up check ram-fits in refl; fresh = refl }
 
 unfoldable pub machine-11 : Machine
 machine-11 = machine-after machine-0 sharing

@@ -28,7 +28,7 @@ operation s (invalidates g) = Invalidated g
 operation s (gives f g) = Give f g
 operation s (takes f g) = Take f g
 operation s (maps f g a r) = Map f g a r (lowest s)
-operation s (unmaps g a) = Unmap g a
+operation s (unmaps g a) = Unmap a g
 operation s (shares-with g f h w) = Share g f h w
 operation s (unshares g f h) = Unshare g f h
 
@@ -58,7 +58,7 @@ answers s (a ∷ rest) = let o = answer s (operation s a) in refusal o ∷ answe
 
 -- "16 frames, frames 0 and 1 the monitor's, everything else free"; RAM at 0x40000000, and all its words are 1 to begin with
 unfoldable pub begin : (k : ℕ) → State
-begin k = started 16 0x40000000 k (λ f i. 1)
+begin k = started 0x40000000 16 k (λ f i. 1)
 
 -- 1 to 11, 12 to 19, 20 to 32
 unfoldable pub sharing : List Ask

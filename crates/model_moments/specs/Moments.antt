@@ -49,7 +49,7 @@ stores-of s (Give f g) = clear f
 stores-of s (Map f g a r pick) =
     grow-stores 3 s g (s .root g) (a / 4096) pick
     ++ (record { frame = grow 3 s g (s .root g) (a / 4096) pick .last; index = a / 4096 % 512; value = page-entry (s .first) f r } ∷ [])
-stores-of s (Unmap g a) = empties (a / 4096) (leaf s g (a / 4096))
+stores-of s (Unmap a g) = empties (a / 4096) (leaf s g (a / 4096))
 stores-of s (Take f g) = []
 stores-of s (Share g f h w) = []
 stores-of s (Unshare g f h) = []

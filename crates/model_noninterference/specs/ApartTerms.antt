@@ -19,7 +19,7 @@ concerns g (Create h pick) = eqb h g
 concerns g (Give f h) = eqb h g
 concerns g (Take f h) = eqb h g
 concerns g (Map f h a r pick) = eqb h g
-concerns g (Unmap h a) = eqb h g
+concerns g (Unmap a h) = eqb h g
 concerns g (Share o f h w) = eqb h g
 concerns g (Unshare o f h) = eqb h g
 concerns g (Destroy h) = eqb h g
@@ -36,7 +36,7 @@ pub data Matches (g : ℕ) (R : Frames) (s s′ : State) : Operation → Operati
   gives : {f f′ : ℕ} → Matches g R s s′ (Give f g) (Give f′ g)
   takes : {f f′ : ℕ} → R f f′ → Matches g R s s′ (Take f g) (Take f′ g)
   maps : {f f′ a r : ℕ} {pick pick′ : ℕ → ℕ} → R f f′ → Matches g R s s′ (Map f g a r pick) (Map f′ g a r pick′)
-  unmaps : {a : ℕ} → Matches g R s s′ (Unmap g a) (Unmap g a)
+  unmaps : {a : ℕ} → Matches g R s s′ (Unmap a g) (Unmap a g)
   lends : {o f f′ w : ℕ} → R f f′ ⊎ ((shown s g f ≡ false) × (shown s′ g f′ ≡ false) × Same-bytes s s′ f f′) → Matches g R s s′ (Share o f g w) (Share o f′ g w)
   unlends : {o f f′ : ℕ} → R f f′ → Matches g R s s′ (Unshare o f g) (Unshare o f′ g)
   destroys : Matches g R s s′ (Destroy g) (Destroy g)
@@ -49,7 +49,7 @@ brings (Share o f h w) = some f
 brings (Create h pick) = none
 brings (Take f h) = none
 brings (Map f h a r pick) = none
-brings (Unmap h a) = none
+brings (Unmap a h) = none
 brings (Unshare o f h) = none
 brings (Destroy h) = none
 brings (Invalidated h) = none

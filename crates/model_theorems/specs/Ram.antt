@@ -19,8 +19,8 @@ use Rattle.model.proofs.Invariant.Image.{byte-there, set-up-image, bytes-of, im
 pub ram-byte : {s : State} {b : ℕ} {m : List ℕ} → Image s b m → ((i : ℕ) → getD m i 0 < 256) → (f o : ℕ) → f < s .size → o < 4096 → byte s f o ≡ getD m (4096 * f + o) 0
 ram-byte x h f o l k = byte-there x h f o l k
 
-pub ram-at-set-up : (n b k : ℕ) (m : List ℕ) → length m ≡ 4096 * n → (s : State) → set-up true n b k (λ f i. word-at m (4096 * f + 8 * i)) ≡ done s → Image s b m
-ram-at-set-up n b k m l s e = set-up-image n b k m l s e
+pub ram-at-set-up : (b n k : ℕ) (m : List ℕ) → length m ≡ 4096 * n → (s : State) → set-up true b n k (λ f i. word-at m (4096 * f + 8 * i)) ≡ done s → Image s b m
+ram-at-set-up b n k m l s e = set-up-image b n k m l s e
 
 pub ram-after : {y z : Machine} (x : SetUp y) → Run y z → ((f i : ℕ) → y .state .word f i < 2 ^ 64) → (m : List ℕ) × Image (z .state) (x .b) m × ((i : ℕ) → getD m i 0 < 256)
 ram-after {z} x r h = (bytes-of (z .state), rw (placed x r .base) (image-of (z .state) (run-wide r (set-up-holds x) h)), bytes-low (z .state))

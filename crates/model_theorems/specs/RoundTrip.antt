@@ -20,7 +20,7 @@ pub map-walk : {y z : Machine} → SetUp y → Run y z → (f g a r : ℕ) (pick
     stage-2 m b (b + 4096 * s′ .root g) (access w) (a + k) .result ≡ cond (grants r w) (reached (b + 4096 * f + k)) (failed Permission 3)
 map-walk {z} y run f g a r pick ch s′ e b m x k l w = walk-asked x (after-map (z .state) (holds y run .core) f g a r pick ch s′ e) k l w
 
-pub unmap-walk : {y z : Machine} → SetUp y → Run y z → (g a : ℕ) (s′ : State) → unmap (z .state) g a ≡ done s′ →
+pub unmap-walk : {y z : Machine} → SetUp y → Run y z → (g a : ℕ) (s′ : State) → unmap (z .state) a g ≡ done s′ →
     (b : ℕ) (m : List ℕ) → Image s′ b m → (k : ℕ) → k < 4096 → (w : Access) →
     stage-2 m b (b + 4096 * s′ .root g) (access w) (a + k) .result ≡ failed Translation 3
 unmap-walk {z} y run g a s′ e b m x k l w = walk-asked x (after-unmap (z .state) (holds y run .core) g a s′ e) k l w

@@ -15,10 +15,10 @@ use Rattle.monitor_contract.specs.Answers.{Outcome}
 unfoldable pub slices-fit : (n : ℕ) (ram ledger : List ℕ) → Bool
 slices-fit n m l = eqb (length m) (n * frame-bytes) && eqb (length l) (words-for n)
 
-abbrev pub setting-up : (n b k : ℕ) (ram ledger : List ℕ) → Out
-setting-up n b k m l = set-up (slices-fit n m l) n b k (word-of m)
+abbrev pub setting-up : (b n k : ℕ) (ram ledger : List ℕ) → Out
+setting-up b n k m l = set-up (slices-fit n m l) b n k (word-of m)
 
 -- Set-up makes what the operations count on, where it is answered with 0.
-pub record SetUp (n b k : ℕ) (ram ledger : List ℕ) (r : ℕ) (ledger′ : List ℕ) : Type 0 where
+pub record SetUp (b n k : ℕ) (ram ledger : List ℕ) (r : ℕ) (ledger′ : List ℕ) : Type 0 where
   pub sound : r ≡ 0 → Sound ram ledger′
-  pub outcome : Outcome (setting-up n b k ram ledger) ram ledger r ram ledger′
+  pub outcome : Outcome (setting-up b n k ram ledger) ram ledger r ram ledger′

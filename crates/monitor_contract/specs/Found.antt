@@ -22,9 +22,11 @@ abbrev pub Translates : M.Operation → (ram ledger ram′ ledger′ : List ℕ)
 Translates o m l m′ l′ = (h v : ℕ) → v < page-count → translate (state-of m′ l′) h v ≡ expected (state-of m l) o h v
 
 -- Document 01's walk of stage 2 on RAM's bytes, from g's root, at every byte k of the page at a and for every kind of access:
--- it comes to that byte of the frame where the rights allow it, and to PERMISSION at level 3 where they do not; where nothing is mapped, to TRANSLATION at level 3.
+-- it comes to that byte of the frame where the rights allow it, and to PERMISSION at level 3 where they do not; where nothing is mapped,
+-- to TRANSLATION at level 3.
 abbrev pub Finds : (g a : ℕ) → Option Page → (ram ledger : List ℕ) → Type 0
-Finds g a o m l = (k : ℕ) → k < 4096 → (w : Access) → stage-2 m (base-of l) (base-of l + 4096 * root-of l g) (access w) (a + k) .result ≡ comes (base-of l) k 0 w o
+Finds g a o m l = (k : ℕ) → k < 4096 → (w : Access) → stage-2 m (base-of l) (base-of l + 4096 * root-of l g) (access w) (a + k) .result ≡
+    comes (base-of l) k 0 w o
 
 -- no refusal is 0
 abbrev pub Nonzero : Out → Type 0

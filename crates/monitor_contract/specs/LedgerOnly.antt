@@ -1,4 +1,4 @@
--- Operations that leave RAM alone: what they have found, and one change of the ledger.
+-- Operations that leave RAM alone and make one change of the ledger: what they have found when they refuse nothing.
 use mathlib.Core.Path.{_≡_}
 use mathlib.Core.Bool.{true}
 use mathlib.Core.List.{List}

@@ -1,4 +1,4 @@
--- What every operation promises, and the laws of a check and a doing.
+-- What every operation promises (Answers; of map and unmap, Found too), and the words of loops and checks that several operations share.
 pub mod Answers
 pub mod Found
 pub mod EachFrame

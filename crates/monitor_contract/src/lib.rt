@@ -1,4 +1,2 @@
-// What every operation of document 03 promises, and laws of a check and of a doing: all of it is in specs/.
-pub fn same(x: usize) -> usize {
-    x
-}
+// What every operation of document 03 promises, and laws of a check and of a doing: in specs/ and proofs/. The numbers of the refusals.
+pub mod refusals;

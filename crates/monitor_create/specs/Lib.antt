@@ -1,2 +1,2 @@
--- create: the definition that the contract cites, and the laws of its proof.
+-- create: what the contracts cite.
 pub mod Create

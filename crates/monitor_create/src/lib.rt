@@ -7,28 +7,27 @@ ghost use Rattle.monitor_contract.specs.Answers.{Answers, Done};
 ghost use Rattle.monitor_create.specs.Create.{creating};
 use ledger::guest;
 use ledger::header;
+use ledger::kinds;
 use ledger::words;
+use monitor_contract::refusals;
 
 fn check_create(ram: &[u8], ledger: &[u32], g: u64) -> u64
     requires { ⌜ Sound (now ram) (now ledger) ⌝ }
     ensures { λ r. ⌜ r ≡ refusal (create·of (state-of (now (ram .entry)) (now (ledger .entry))) g (pick-of (now (ledger .entry)))) ⌝ }
 {
-    if g == 0 {
-        return 1;
-    }
-    if ledger::GUESTS < g {
-        return 1;
+    if !guest::is_guest(g) {
+        return refusals::NO_GUEST_NUMBER;
     }
     if guest::exists(ledger, g) {
-        return 2;
+        return refusals::GUEST_EXISTS;
     }
     if guest::dirty(ledger, g) {
-        return 2;
+        return refusals::GUEST_EXISTS;
     }
     if header::free(ledger) == 0 {
-        return 3;
+        return refusals::NO_FREE_FRAMES;
     }
-    0
+    refusals::DONE
 }
 
 // The table is cleared before it is the root.
@@ -39,8 +38,8 @@ fn do_create(ram: &mut [u8], ledger: &mut [u32], g: u64)
 {
     let t = ledger_free::next(ledger);
     words::clear_frame(ram, t);
-    ledger_free::become_table(ledger, t, g, 3, 0);
-    guest::set_existence(ledger, g, 1);
+    ledger_free::become_table(ledger, t, g, kinds::ROOT_HEIGHT, 0);
+    guest::set_existence(ledger, g, guest::YES);
     guest::set_root(ledger, g, t);
 }
 
@@ -50,9 +49,9 @@ pub fn create(ram: &mut [u8], ledger: &mut [u32], g: u64) -> u64
     ensures { λ r. ⌜ Answers (creating g) (now (ram .entry)) (now (ledger .entry)) r (now (ram .exit)) (now (ledger .exit)) ⌝ }
 {
     let refused = check_create(ram, ledger, g);
-    if refused != 0 {
+    if refused != refusals::DONE {
         return refused;
     }
     do_create(ram, ledger, g);
-    0
+    refusals::DONE
 }

@@ -1,2 +1,2 @@
--- destroy: the definition that the contract cites, and the laws of its proof.
+-- destroy: what the contracts cite.
 pub mod Destroy

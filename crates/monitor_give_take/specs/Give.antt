@@ -1,4 +1,4 @@
--- give: the tests, one by one, and the two slices after it.
+-- give as an operation of the state, as the contracts cite it. What it does: model/specs/Operations.
 use Prim.Native.Nat.{ℕ}
 use Rattle.model.specs.Operations.{give}
 use Rattle.monitor_contract.specs.Answers.{Operation}

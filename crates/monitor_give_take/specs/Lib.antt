@@ -1,3 +1,3 @@
--- give and take: the definition that each function's contract cites, and the laws of its proof.
+-- give and take: what the contracts cite.
 pub mod Give
 pub mod Take

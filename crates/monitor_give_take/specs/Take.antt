@@ -1,4 +1,4 @@
--- take: the ledger after it. The page drains, or is free.
+-- take as an operation of the state, as the contracts cite it. What it does: model/specs/Operations.
 use Prim.Native.Nat.{ℕ}
 use Rattle.model.specs.Operations.{take}
 use Rattle.monitor_contract.specs.Answers.{Operation}

@@ -10,21 +10,22 @@ use ledger::frame;
 use ledger::guest;
 use ledger::header;
 use ledger::words;
+use monitor_contract::refusals;
 
 fn check_give(ram: &[u8], ledger: &[u32], f: u64, g: u64) -> u64
     requires { ⌜ Sound (now ram) (now ledger) ⌝ }
     ensures { λ r. ⌜ r ≡ refusal (give·of (state-of (now (ram .entry)) (now (ledger .entry))) f g) ⌝ }
 {
     if !guest::exists(ledger, g) {
-        return 5;
+        return refusals::NO_GUEST;
     }
     if header::size(ledger) <= f {
-        return 4;
+        return refusals::NO_FRAME;
     }
     if !frame::is_free(ledger, f) {
-        return 6;
+        return refusals::NOT_FREE;
     }
-    0
+    refusals::DONE
 }
 
 fn do_give(ram: &mut [u8], ledger: &mut [u32], f: u64, g: u64)
@@ -43,11 +44,11 @@ pub fn give(ram: &mut [u8], ledger: &mut [u32], f: u64, g: u64) -> u64
     ensures { λ r. ⌜ Answers (giving f g) (now (ram .entry)) (now (ledger .entry)) r (now (ram .exit)) (now (ledger .exit)) ⌝ }
 {
     let refused = check_give(ram, ledger, f, g);
-    if refused != 0 {
+    if refused != refusals::DONE {
         return refused;
     }
     do_give(ram, ledger, f, g);
-    0
+    refusals::DONE
 }
 
 fn check_take(ram: &[u8], ledger: &[u32], f: u64, g: u64) -> u64
@@ -55,22 +56,22 @@ fn check_take(ram: &[u8], ledger: &[u32], f: u64, g: u64) -> u64
     ensures { λ r. ⌜ r ≡ refusal (take·of (state-of (now (ram .entry)) (now (ledger .entry))) f g) ⌝ }
 {
     if !guest::exists(ledger, g) {
-        return 5;
+        return refusals::NO_GUEST;
     }
     if header::size(ledger) <= f {
-        return 4;
+        return refusals::NO_FRAME;
     }
     if !frame::is_page_of(ledger, f, g) {
-        return 9;
+        return refusals::NOT_ITS_PAGE;
     }
     let used = frame::uses(ledger, f);
     if used.places != 0 {
-        return 13;
+        return refusals::STILL_USED;
     }
     if used.shares != 0 {
-        return 13;
+        return refusals::STILL_USED;
     }
-    0
+    refusals::DONE
 }
 
 fn do_take(ram: &[u8], ledger: &mut [u32], f: u64, g: u64)
@@ -91,9 +92,9 @@ pub fn take(ram: &[u8], ledger: &mut [u32], f: u64, g: u64) -> u64
     ensures { λ r. ⌜ Answers (taking f g) (now (ram .entry)) (now (ledger .entry)) r (now (ram .entry)) (now (ledger .exit)) ⌝ }
 {
     let refused = check_take(ram, ledger, f, g);
-    if refused != 0 {
+    if refused != refusals::DONE {
         return refused;
     }
     do_take(ram, ledger, f, g);
-    0
+    refusals::DONE
 }

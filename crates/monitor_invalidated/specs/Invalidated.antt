@@ -1,4 +1,5 @@
--- invalidated: the ledger after it.
+-- invalidated as an operation of the state and of the order of its free frames, as the contracts cite it. What it does:
+-- model/specs/Operations.
 use Prim.Native.Nat.{ℕ}
 use Rattle.model.specs.Operations.{invalidated}
 use Rattle.monitor_contract.specs.Answers.{Operation}

@@ -1,2 +1,2 @@
--- invalidated: the definition that the contract cites, and the laws of its proof.
+-- invalidated: what the contracts cite.
 pub mod Invalidated

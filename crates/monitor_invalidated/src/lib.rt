@@ -2,31 +2,29 @@
 ghost use mathlib.Core.Path.{_≡_};
 ghost use Rattle.model.specs.Changes.{released};
 ghost use Rattle.model.specs.Operations.{refusal, invalidated as invalidated·of};
-ghost use Rattle.ledger.specs.Layout.{size-of, state-of};
-ghost use Rattle.ledger.specs.LedgerSound.{Ledger-sound, Changed};
+ghost use Rattle.ledger.specs.Layout.{state-of};
+ghost use Rattle.ledger.specs.LedgerSound.{Ledger-sound};
 ghost use Rattle.ledger.specs.Sound.{Sound};
 ghost use Rattle.monitor_contract.specs.Answers.{Answers, Done};
-ghost use Rattle.monitor_contract.specs.EachFrame.{turned-below, same};
+ghost use Rattle.monitor_contract.specs.EachFrame.{Each-turned, same};
 ghost use Rattle.monitor_invalidated.specs.Invalidated.{invalidating};
 use ledger::guest;
 use ledger::header;
+use monitor_contract::refusals;
 
 fn check_invalidated(ram: &[u8], ledger: &[u32], g: u64) -> u64
     requires { ⌜ Sound (now ram) (now ledger) ⌝ }
     ensures { λ r. ⌜ r ≡ refusal (invalidated·of (state-of (now (ram .entry)) (now (ledger .entry))) g) ⌝ }
 {
-    if g == 0 {
-        return 1;
+    if !guest::is_guest(g) {
+        return refusals::NO_GUEST_NUMBER;
     }
-    if ledger::GUESTS < g {
-        return 1;
-    }
-    0
+    refusals::DONE
 }
 
 fn release_all(ledger: &mut [u32], g: u64)
     requires { ⌜ Ledger-sound (now ledger) ⌝ }
-    ensures { λ _. ⌜ Changed (turned-below (released g) same (size-of (now (ledger .entry)))) (now (ledger .entry)) (now (ledger .exit)) ⌝ }
+    ensures { λ _. ⌜ Each-turned (released g) same (now (ledger .entry)) (now (ledger .exit)) ⌝ }
 {
     let n = header::size(ledger);
     let mut f: u64 = 0;
@@ -42,7 +40,7 @@ fn do_invalidated(ram: &[u8], ledger: &mut [u32], g: u64)
     ensures { λ _. ⌜ Done (invalidating g) (now (ram .entry)) (now (ledger .entry)) (now (ram .entry)) (now (ledger .exit)) ⌝ }
 {
     release_all(ledger, g);
-    guest::set_dirty(ledger, g, 0);
+    guest::set_dirty(ledger, g, guest::NO);
 }
 
 // "invalidated g: g isn't dirty any more; what drains for g is free"
@@ -51,9 +49,9 @@ pub fn invalidated(ram: &[u8], ledger: &mut [u32], g: u64) -> u64
     ensures { λ r. ⌜ Answers (invalidating g) (now (ram .entry)) (now (ledger .entry)) r (now (ram .entry)) (now (ledger .exit)) ⌝ }
 {
     let refused = check_invalidated(ram, ledger, g);
-    if refused != 0 {
+    if refused != refusals::DONE {
         return refused;
     }
     do_invalidated(ram, ledger, g);
-    0
+    refusals::DONE
 }

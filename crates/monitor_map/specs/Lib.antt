@@ -1,2 +1,2 @@
--- map: the definition that the contract cites, the plan, and the laws of its proof.
+-- map: what the contracts cite.
 pub mod Map

@@ -1,20 +1,17 @@
--- map: the tests on the arguments, the plan that the check makes, and the two slices after the doing.
+-- map as an operation of the state, its tests that look at no table, and the plan of its check: what the contracts cite.
 use mathlib.Core.Path.{_≡_}
 use mathlib.Core.Bool.{Bool, true, false, not, _&&_, _||_}
 use mathlib.Core.List.{List}
 use Prim.Native.Nat.{ℕ, _-_, _≤_, _/_}
 use lib.Dec.{ltb}
-use lib.ListN.{length}
-use Rattle.model.specs.State.{State, page, is-page, is-page-of, free-frames}
+use Rattle.model.specs.State.{State, is-page, is-page-of, free-frames}
 use Rattle.model.specs.Translate.{mapped}
-use Rattle.model.specs.Changes.{grow}
-use Rattle.model.specs.Operations.{Out, refuse, check, page-address, is-rights, shares, may-map, map}
-use Rattle.ledger.specs.Layout.{kind-of, shared-of, pick-of, state-of}
-use Rattle.monitor_descent.specs.declared.Plan.{Plan}
-use Rattle.monitor_descent.specs.declared.Plan.the-variants.{Stop, Go}
+use Rattle.model.specs.Operations.{Out, refuse, done, refusal, check, page-address, is-rights, shares, may-map, map}
+use Rattle.ledger.specs.Layout.{kind-of, shared-of}
 use Rattle.monitor_contract.specs.Answers.{Operation}
-use Rattle.monitor_descent.specs.Way.{Ended}
-use Rattle.monitor_tables.specs.NewTable.{Growing}
+use Rattle.monitor_tables.specs.Way.{Ended}
+use Rattle.monitor_map.specs.declared.MapPlan.{MapPlan}
+use Rattle.monitor_map.specs.declared.MapPlan.the-variants.{Refused, Grow}
 
 abbrev pub mapping : (f g a r : ℕ) → Operation
 mapping f g a r s pick = map s f g a r pick
@@ -24,7 +21,10 @@ abbrev pub six : (b1 b2 b3 b4 b5 b6 : Bool) → Out → Out
 six b1 b2 b3 b4 b5 b6 o = check b1 5 (check b2 14 (check b3 7 (check b4 8 (check b5 4 (check b6 9 o)))))
 
 abbrev pub asked : State → (f g a r : ℕ) → Out → Out
-asked s f g a r o = six (s .exists g) (not (s .dirty g)) (page-address a) (is-rights r) (ltb f (s .size)) (may-map s g f r) o
+asked s f g a r o = six (s .exists g) (not (s .dirty g)) (page-address a) (is-rights r) (ltb f (s .size)) (may-map s f g r) o
+
+abbrev pub first-refusal : State → (f g a r : ℕ) → ℕ
+first-refusal s f g a r = refusal (asked s f g a r (done s))
 
 -- may-map, read off the ledger
 abbrev pub allows : List ℕ → (f g r : ℕ) → Bool
@@ -36,24 +36,15 @@ pub record Granted (s : State) (f g a r : ℕ) : Type 0 where
   pub address : page-address a ≡ true
   pub rights : is-rights r ≡ true
   pub frame : ltb f (s .size) ≡ true
-  pub may : may-map s g f r ≡ true
+  pub may : may-map s f g r ≡ true
 
--- where the doing starts
-pub record Ready (s : State) (f g a r t h : ℕ) : Type 0 where
+-- where the doing starts: table t of height h is the last that is there
+pub record Ready (s : State) (f g a r h t : ℕ) : Type 0 where
   pub granted : Granted s f g a r
   pub ended : Ended s g (a / 4096) h t
   pub unmapped : mapped s g (a / 4096) ≡ false
   pub enough : h ≤ free-frames s
 
-abbrev pub Map-plan : State → (f g a r : ℕ) (pick : ℕ → ℕ) → Plan → Type 0
-Map-plan s f g a r pick (Stop k) = map s f g a r pick ≡ refuse k
-Map-plan s f g a r pick (Go t h) = Ready s f g a r t h
-
--- all tables
-pub record Filling (m₀ l₀ : List ℕ) (f g v : ℕ) (m l : List ℕ) (h t : ℕ) : Type 0 where
-  pub growing : Growing m l g v h t
-  pub grows : grow 3 (state-of m₀ l₀) g (state-of m₀ l₀ .root g) v (pick-of l₀) ≡ grow h (state-of m l) g t v (pick-of l)
-  pub owner : ℕ
-  pub page-is : state-of m l .kind f ≡ page owner
-  pub ram-same : length m ≡ length m₀
-  pub ledger-same : length l ≡ length l₀
+abbrev pub Map-plan : State → (f g a r : ℕ) (pick : ℕ → ℕ) → MapPlan → Type 0
+Map-plan s f g a r pick (Refused k) = map s f g a r pick ≡ refuse k
+Map-plan s f g a r pick (Grow h t) = Ready s f g a r h t

@@ -1,2 +1,2 @@
--- What a host is told: the definitions that the contracts cite, and the laws of their proofs.
+-- What a host is told: what the contracts cite.
 pub mod Questions

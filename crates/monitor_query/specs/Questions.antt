@@ -2,11 +2,11 @@
 use mathlib.Core.Bool.{cond}
 use mathlib.Core.List.{List}
 use Prim.Native.Nat.{ℕ, _+_, _*_}
-use lib.Dec.{eqb, ltb}
+use lib.Dec.{ltb}
 use Rattle.walk.specs.declared.Answer.{Answer}
 use Rattle.walk.specs.declared.Answer.the-variants.{Refused}
 use Rattle.walk.specs.Both.{answer-2}
-use Rattle.model.specs.State.{State, Frame-kind, monitor, free, table, draining-table, page, draining-page, is-guest, total}
+use Rattle.model.specs.State.{NOTHING, State, Frame-kind, monitor, free, table, draining-table, page, draining-page, is-guest, total}
 use Rattle.model.specs.Bytes.{access}
 use Rattle.ledger.specs.Layout.{size-of, first-of, root-of, exists-of}
 use Rattle.monitor_query.specs.declared.FrameKind.{FrameKind}
@@ -26,15 +26,13 @@ unfoldable pub frame-told : State → (f : ℕ) → FrameKind
 frame-told s f = cond (ltb f (s .size)) (kind-told (s .kind f) (total (s .count f))) Outside
 
 unfoldable pub share-told : State → (f h : ℕ) → ℕ
-share-told s f h = cond (ltb f (s .size)) (cond (is-guest h) (s .shared f h) 0) 0
+share-told s f h = cond (ltb f (s .size)) (cond (is-guest h) (s .shared f h) NOTHING) NOTHING
 
 unfoldable pub guest-told : State → (g : ℕ) → GuestKind
-guest-told s g = cond (is-guest g) (cond (s .exists g) (Present (4096 * (s .first + s .root g)) (s .dirty g)) (Absent (s .dirty g))) Nobody
+guest-told s g =
+    cond (is-guest g) (cond (s .exists g) (Present (4096 * (s .first + s .root g)) (s .dirty g)) (Absent (s .dirty g))) Nobody
 
 -- the walk of stage 2 on the bytes of RAM, from the guest's root
 unfoldable pub translated : (ram ledger : List ℕ) (g a access : ℕ) → Answer
-translated m l g a w = cond (exists-of l g) (answer-2 m (4096 * first-of l) (size-of l) (4096 * (first-of l + root-of l g)) a w) Refused
-
--- by the numbers of what a frame is, as the code asks
-unfoldable pub by-number : (k g n : ℕ) → FrameKind
-by-number k g n = cond (eqb k 0) Monitor (cond (eqb k 1) Free (cond (eqb k 2) (Table g) (cond (eqb k 4) (Page g n) (Draining g))))
+translated m l g a w =
+    cond (exists-of l g) (answer-2 m (4096 * first-of l) (size-of l) (4096 * (first-of l + root-of l g)) a w) Refused

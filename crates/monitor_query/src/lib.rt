@@ -8,6 +8,7 @@ ghost use Rattle.monitor_query.specs.Questions.{frame-told, share-told, 
 use ledger::frame;
 use ledger::guest;
 use ledger::header;
+use ledger::kinds;
 use walk::Answer;
 
 // What a frame is; Outside where there is no such frame. A page is mapped in so many places.
@@ -37,35 +38,32 @@ pub fn what_frame(ram: &[u8], ledger: &[u32], f: u64) -> FrameKind
     }
     let k = frame::kind(ledger, f);
     let g = frame::owner(ledger, f);
-    if k == 0 {
+    if k == kinds::MONITOR {
         return FrameKind::Monitor;
     }
-    if k == 1 {
+    if k == kinds::FREE {
         return FrameKind::Free;
     }
-    if k == 2 {
+    if k == kinds::TABLE {
         return FrameKind::Table(g);
     }
-    if k == 4 {
+    if k == kinds::PAGE {
         let mapped = frame::uses(ledger, f).places;
         return FrameKind::Page { owner: g, mapped };
     }
     FrameKind::Draining(g)
 }
 
-// What of frame f is shared with guest h: 0 nothing, 1 reading, 2 writing too.
+// What of frame f is shared with guest h: NOTHING, READING or WRITING of ledger::frame.
 pub fn shared_with(ram: &[u8], ledger: &[u32], f: u64, h: u64) -> u64
     requires { ⌜ Sound (now ram) (now ledger) ⌝ }
     ensures { λ r. ⌜ r ≡ share-told (state-of (now (ram .entry)) (now (ledger .entry))) f h ⌝ }
 {
     if header::size(ledger) <= f {
-        return 0;
+        return frame::NOTHING;
     }
-    if h == 0 {
-        return 0;
-    }
-    if ledger::GUESTS < h {
-        return 0;
+    if !guest::is_guest(h) {
+        return frame::NOTHING;
     }
     frame::share(ledger, f, h)
 }
@@ -86,10 +84,7 @@ pub fn what_guest(ram: &[u8], ledger: &[u32], g: u64) -> GuestKind
     requires { ⌜ Sound (now ram) (now ledger) ⌝ }
     ensures { λ r. ⌜ r ≡ guest-told (state-of (now (ram .entry)) (now (ledger .entry))) g ⌝ }
 {
-    if g == 0 {
-        return GuestKind::Nobody;
-    }
-    if ledger::GUESTS < g {
+    if !guest::is_guest(g) {
         return GuestKind::Nobody;
     }
     let dirty = guest::dirty(ledger, g);

@@ -1,2 +1,2 @@
--- share and unshare: the definition that each function's contract cites, and the laws of its proof.
+-- share and unshare: what the contracts cite.
 pub mod Share

@@ -1,7 +1,9 @@
--- share and unshare: what keeps a guest from losing a right, and the ledger after it.
+-- share and unshare as operations of the state, what keeps a guest from losing a right, and how far a page is shared:
+-- as the contracts cite them. What they do: model/specs/Operations.
 use mathlib.Core.Bool.{Bool, cond}
 use Prim.Native.Nat.{ℕ}
 use lib.Dec.{eqb}
+use Rattle.model.specs.State.{READING, WRITING}
 use Rattle.model.specs.Operations.{share, unshare}
 use Rattle.monitor_contract.specs.Answers.{Operation}
 
@@ -17,4 +19,4 @@ held-back c d = cond (eqb c 0) (cond d 14 0) 13
 
 -- share: "h may map f for reading, and for writing too unless w = 0"
 abbrev pub extent : ℕ → ℕ
-extent w = cond (eqb w 0) 1 2
+extent w = cond (eqb w 0) READING WRITING

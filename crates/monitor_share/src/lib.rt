@@ -8,10 +8,11 @@ ghost use Rattle.ledger.specs.Layout.{size-of, count-of, dirty-of, state-of};
 ghost use Rattle.ledger.specs.LedgerSound.{Ledger-sound};
 ghost use Rattle.ledger.specs.Sound.{Sound};
 ghost use Rattle.monitor_contract.specs.Answers.{Answers};
-ghost use Rattle.monitor_share.specs.Share.{sharing, unsharing, held-back, extent};
+ghost use Rattle.monitor_share.specs.Share.{sharing, unsharing, held-back, extent as extent·of};
 use ledger::frame;
 use ledger::guest;
 use ledger::header;
+use monitor_contract::refusals;
 
 // 13 while h has f mapped anywhere, 14 while h is dirty: what keeps a right from being taken away.
 fn held(ledger: &[u32], f: u64, h: u64) -> u64
@@ -21,12 +22,12 @@ fn held(ledger: &[u32], f: u64, h: u64) -> u64
     ensures { λ r. ⌜ r ≡ held-back (count-of (now (ledger .entry)) f h) (dirty-of (now (ledger .entry)) h) ⌝ }
 {
     if frame::count(ledger, f, h) != 0 {
-        return 13;
+        return refusals::STILL_USED;
     }
     if guest::dirty(ledger, h) {
-        return 14;
+        return refusals::DIRTY;
     }
-    0
+    refusals::DONE
 }
 
 fn check_share(ram: &[u8], ledger: &[u32], g: u64, f: u64, h: u64, w: u64) -> u64
@@ -34,37 +35,37 @@ fn check_share(ram: &[u8], ledger: &[u32], g: u64, f: u64, h: u64, w: u64) -> u6
     ensures { λ r. ⌜ r ≡ refusal (share·of (state-of (now (ram .entry)) (now (ledger .entry))) g f h w) ⌝ }
 {
     if !guest::exists(ledger, g) {
-        return 5;
+        return refusals::NO_GUEST;
     }
     if !guest::exists(ledger, h) {
-        return 5;
+        return refusals::NO_GUEST;
     }
     if g == h {
-        return 12;
+        return refusals::WITH_ITSELF;
     }
     if header::size(ledger) <= f {
-        return 4;
+        return refusals::NO_FRAME;
     }
     if !frame::is_page_of(ledger, f, g) {
-        return 9;
+        return refusals::NOT_ITS_PAGE;
     }
     if w != 0 {
-        return 0;
+        return refusals::DONE;
     }
-    if frame::share(ledger, f, h) < 2 {
-        return 0;
+    if frame::share(ledger, f, h) < frame::WRITING {
+        return refusals::DONE;
     }
     held(ledger, f, h)
 }
 
-// What h may do then: 1 map for reading, 2 for writing too.
-fn rights(w: u64) -> u64
-    ensures { λ r. ⌜ r ≡ extent w ⌝ }
+// How far f is shared then.
+fn extent(w: u64) -> u64
+    ensures { λ r. ⌜ r ≡ extent·of w ⌝ }
 {
     if w == 0 {
-        return 1;
+        return frame::READING;
     }
-    2
+    frame::WRITING
 }
 
 // "share g's f with h, writing w: h may map f for reading, and for writing too unless w = 0"
@@ -73,11 +74,11 @@ pub fn share(ram: &[u8], ledger: &mut [u32], g: u64, f: u64, h: u64, w: u64) -> 
     ensures { λ r. ⌜ Answers (sharing g f h w) (now (ram .entry)) (now (ledger .entry)) r (now (ram .entry)) (now (ledger .exit)) ⌝ }
 {
     let refused = check_share(ram, ledger, g, f, h, w);
-    if refused != 0 {
+    if refused != refusals::DONE {
         return refused;
     }
-    frame::set_share(ledger, f, h, rights(w));
-    0
+    frame::set_share(ledger, f, h, extent(w));
+    refusals::DONE
 }
 
 fn check_unshare(ram: &[u8], ledger: &[u32], g: u64, f: u64, h: u64) -> u64
@@ -85,19 +86,19 @@ fn check_unshare(ram: &[u8], ledger: &[u32], g: u64, f: u64, h: u64) -> u64
     ensures { λ r. ⌜ r ≡ refusal (unshare·of (state-of (now (ram .entry)) (now (ledger .entry))) g f h) ⌝ }
 {
     if !guest::exists(ledger, g) {
-        return 5;
+        return refusals::NO_GUEST;
     }
     if !guest::exists(ledger, h) {
-        return 5;
+        return refusals::NO_GUEST;
     }
     if header::size(ledger) <= f {
-        return 4;
+        return refusals::NO_FRAME;
     }
     if !frame::is_page_of(ledger, f, g) {
-        return 9;
+        return refusals::NOT_ITS_PAGE;
     }
-    if frame::share(ledger, f, h) == 0 {
-        return 9;
+    if frame::share(ledger, f, h) == frame::NOTHING {
+        return refusals::NOT_ITS_PAGE;
     }
     held(ledger, f, h) // h loses it, so what h has mapped and kept counts
 }
@@ -108,9 +109,9 @@ pub fn unshare(ram: &[u8], ledger: &mut [u32], g: u64, f: u64, h: u64) -> u64
     ensures { λ r. ⌜ Answers (unsharing g f h) (now (ram .entry)) (now (ledger .entry)) r (now (ram .entry)) (now (ledger .exit)) ⌝ }
 {
     let refused = check_unshare(ram, ledger, g, f, h);
-    if refused != 0 {
+    if refused != refusals::DONE {
         return refused;
     }
-    frame::set_share(ledger, f, h, 0);
-    0
+    frame::set_share(ledger, f, h, frame::NOTHING);
+    refusals::DONE
 }

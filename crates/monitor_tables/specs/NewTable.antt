@@ -2,11 +2,13 @@
 use mathlib.Core.Path.{_≡_}
 use mathlib.Core.List.{List}
 use Prim.Native.Nat.{ℕ, suc, _-_, _<_, _≤_, _/_, _%_}
+use Rattle.model.specs.Base.{upd, upd2}
+use Rattle.model.specs.Entry.{table-entry}
 use Rattle.model.specs.State.{table, page, page-count}
 use Rattle.model.specs.Translate.{index}
-use Rattle.model.specs.Changes.{grow}
+use Rattle.model.specs.Changes.{zeros, grow}
 use Rattle.model.specs.Translate.{At}
-use Rattle.ledger.specs.Layout.{kind-of, word-of, pick-of, state-of}
+use Rattle.ledger.specs.Layout.{first-of, kind-of, word-of, pick-of, state-of}
 use Rattle.ledger.specs.Sound.{Sound, free-of}
 
 -- u is, in the ledger, the table that entry i of table t is to lead to: of the same guest, for what that entry serves
@@ -21,6 +23,10 @@ pub record Placed (l : List ℕ) (t i u : ℕ) : Type 0 where
 -- "Tables are filled with zeros before they are linked in"
 pub record Blank (m : List ℕ) (u : ℕ) : Type 0 where
   pub zero-at : (j : ℕ) → word-of m u j ≡ 0
+
+-- the words of RAM when table u is cleared and entry i of table t leads to it
+abbrev pub cleared-and-linked : (ram ledger : List ℕ) (t i u : ℕ) → (ℕ → ℕ → ℕ)
+cleared-and-linked m l t i u = upd2 (upd (word-of m) u zeros) t i (table-entry (first-of l) u)
 
 -- where the doing stands: h tables are missing below t
 pub record Growing (m l : List ℕ) (g v h t : ℕ) : Type 0 where

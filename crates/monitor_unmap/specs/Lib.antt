@@ -1,2 +1,2 @@
--- unmap: the definition that the contract cites, the plan, and the laws of its proof.
+-- unmap: what the contracts cite.
 pub mod Unmap

@@ -164,7 +164,10 @@ fn operation_with(d: OperationName, a: [u64; MOST_ARGUMENTS]) -> Operation
 {
     match d {
         OperationName::Creating => Operation::Create { guest: a[0] },
-        OperationName::Giving => Operation::Give { frame: a[0], guest: a[1] },
+        OperationName::Giving => Operation::Give {
+            frame: a[0],
+            guest: a[1],
+        },
         OperationName::Mapping => Operation::Map {
             frame: a[0],
             guest: a[1],
@@ -186,7 +189,10 @@ fn operation_with(d: OperationName, a: [u64; MOST_ARGUMENTS]) -> Operation
             frame: a[1],
             with: a[2],
         },
-        OperationName::Taking => Operation::Take { frame: a[0], guest: a[1] },
+        OperationName::Taking => Operation::Take {
+            frame: a[0],
+            guest: a[1],
+        },
         OperationName::Destroying => Operation::Destroy { guest: a[0] },
         OperationName::Invalidating => Operation::Invalidated { guest: a[0] },
     }

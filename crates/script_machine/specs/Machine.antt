@@ -82,9 +82,9 @@ abbrev pub Answers-only : Reply → Machine → (ram ledger ram′ ledger′ : L
 Answers-only x m ram l ram′ l′ r = (r ≡ outcome m x) × (ram′ ≡ ram) × (l′ ≡ l)
 
 -- `setup N B K`: "On 0 the RAM is all zero"; the ledger is what the monitor's set-up makes, in its part of the slice
-pub record Setup-done (n b k : ℕ) (ram l ram′ l′ : List ℕ) : Type 0 where
+pub record Setup-done (b n k : ℕ) (ram l ram′ l′ : List ℕ) : Type 0 where
   pub cleared : ram′ ≡ cleared-at ram 0 (frame-bytes * n)
-  pub started : Start.SetUp n b k (take (frame-bytes * n) ram′) (take (words-for n) l) 0 (take (words-for n) l′)
+  pub started : Start.SetUp b n k (take (frame-bytes * n) ram′) (take (words-for n) l) 0 (take (words-for n) l′)
   pub rest : drop (words-for n) l′ ≡ drop (words-for n) l
 
 abbrev pub Setup-effect : Bool → (n b k : ℕ) → Machine → (ram ledger ram′ ledger′ : List ℕ) → Outcome → Type 0

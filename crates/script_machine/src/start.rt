@@ -45,7 +45,7 @@ pub fn set_up(
         let n = memory::FRAME_BYTES as usize * frames as usize;
         let w = HEADER_WORDS as usize + ROW_WORDS as usize * frames as usize;
         memory::clear(ram, 0, n);
-        let answer = monitor::start::set_up(&ram[..n], &mut ledger[..w], frames, base, monitor);
+        let answer = monitor::start::set_up(&ram[..n], &mut ledger[..w], base, frames, monitor);
         return Outcome {
             machine: Machine {
                 base,

@@ -26,14 +26,14 @@ run-fits h stop = h
 run-fits h (then s r) = run-fits (step-fits h s) r
 
 -- set-up refuses with 4, and never with 0
-accepted : (t : Bool) (n b k : ℕ) (m l l′ : List ℕ) → Outcome (set-up t n b k (word-of m)) m l 0 m l′ → set-up true n b k (word-of m) ≡ done (state-of m l′)
+accepted : (t : Bool) (b n k : ℕ) (m l l′ : List ℕ) → Outcome (set-up t b n k (word-of m)) m l 0 m l′ → set-up true b n k (word-of m) ≡ done (state-of m l′)
 unfolding set-up check
-accepted true n b k m l l′ o = go (true && ram-fits b n && ltb k n) o
+accepted true b n k m l l′ o = go (true && ram-fits b n && ltb k n) o
   where
-    go : (u : Bool) → Outcome (check u 4 (done (started n b k (word-of m)))) m l 0 m l′ → check u 4 (done (started n b k (word-of m))) ≡ done (state-of m l′)
+    go : (u : Bool) → Outcome (check u 4 (done (started b n k (word-of m)))) m l 0 m l′ → check u 4 (done (started b n k (word-of m))) ≡ done (state-of m l′)
     go true o = ap done (sym (o .1))
     go false o = let z = o .0 in absurd (omega arith)
-accepted false n b k m l l′ o = let z = o .0 in absurd (omega arith)
+accepted false b n k m l l′ o = let z = o .0 in absurd (omega arith)
 
 pub begun-is : {x : Slices} → Begun x → M.SetUp (machine x)
 begun-is {x} h = record {

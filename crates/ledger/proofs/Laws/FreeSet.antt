@@ -8,6 +8,7 @@ use lib.Dec.{eqb, ltb}
 use borrow.Author.Tests.{lt-ltb, le-ltb, eqb-true}
 use Rattle.model.proofs.Laws.Base.{lt?, sum-cong, sum-none, sum-point}
 use Rattle.model.specs.Base.{sum}
+use Rattle.model.specs.State.{FREE}
 use Rattle.ledger.specs.FreeSet.{Free-set}
 
 -- The set has as many frames as are free.
@@ -42,16 +43,17 @@ module _ (n : ℕ) (K D P : ℕ → ℕ) (count : ℕ) (s : Free-set n K D P cou
       let step = sum-point n (among c) (among (suc c)) (D c) low (same c) in
       omega arith
 
-  pub free-number : sum n (λ f. cond (eqb (K f) 1) 1 0) ≡ count
-  free-number = sum-cong n (λ f. cond (eqb (K f) 1) 1 0) (among count) (λ f l. rw (s .in-set f l, lt-ltb f n l)) ∙ counted count (s .few)
+  pub free-number : sum n (λ f. cond (eqb (K f) FREE) 1 0) ≡ count
+  free-number = sum-cong n (λ f. cond (eqb (K f) FREE) 1 0) (among count) (λ f l. rw (s .in-set f l, lt-ltb f n l))
+      ∙ counted count (s .few)
 
   -- the frame at a place inside is free
-  pub free-at : (i : ℕ) → i < count → (D i < n) × (K (D i) ≡ 1)
+  pub free-at : (i : ℕ) → i < count → (D i < n) × (K (D i) ≡ FREE)
   free-at i l =
       let few = s .few in
       let low = s .d-low i (omega arith) in
       let at = s .p-d i (omega arith) in
-      (low, eqb-true (K (D i)) 1 (s .in-set (D i) low ∙ lt-ltb (P (D i)) count (omega arith)))
+      (low, eqb-true (K (D i)) FREE (s .in-set (D i) low ∙ lt-ltb (P (D i)) count (omega arith)))
 
   pub once-at : (i j : ℕ) → i < n → j < n → D i ≡ D j → i ≡ j
   once-at i j hi hj e = sym (s .p-d i hi) ∙ ap P e ∙ s .p-d j hj

@@ -1,4 +1,4 @@
--- Laws of specs/Stock.
+-- Laws of specs/LedgerSound.
 use mathlib.Core.Path.{_≡_, refl, ap, _∙_}
 use mathlib.Core.Logic.{inl, inr}
 use mathlib.Core.List.{List}
@@ -9,26 +9,29 @@ use Rattle.model.specs.Base.{upd2}
 use Rattle.model.specs.State.{State}
 use Rattle.ledger.specs.Cells.{store}
 use Rattle.ledger.proofs.Laws.Cells.{length-store, cell-store, cell-apart}
-use Rattle.ledger.specs.Layout.{frames, guest-rows, room-for-frames, word-of, state-in, state-of}
+use Rattle.ledger.specs.Layout.{frames, guest-rows, word-of, state-in, state-of}
+use Rattle.ledger.specs.Columns.{room-for-frames, ROW-WORDS, GUEST-ROWS, HEADER-WORDS}
 use Rattle.ledger.specs.LedgerSound.{Rows-sound, Holds, Changed}
 
 pub holds-itself : (l : List ℕ) → Holds (length l) l (frames l) (guest-rows l)
 holds-itself l = record { length-is = refl; frames-are = refl; guests-are = refl }
 
-pub holds-frame : {len : ℕ} {l : List ℕ} {F G : ℕ → ℕ → ℕ} → Holds len l F G → (j f v : ℕ) → j < 16 → f < room-for-frames → 144 + 16 * f + j < len →
-    Holds len (store 144 l j f v) (upd2 F j f v) G
+pub holds-frame : {len : ℕ} {l : List ℕ} {F G : ℕ → ℕ → ℕ} → Holds len l F G → (j f v : ℕ) → j < ROW-WORDS → f < room-for-frames →
+    HEADER-WORDS + ROW-WORDS * f + j < len →
+    Holds len (store HEADER-WORDS l j f v) (upd2 F j f v) G
 holds-frame {len} {l} {F} {G} h j f v hj hf low = let k = h .length-is in record {
-  length-is = length-store 144 l j f v ∙ h .length-is;
-  frames-are = cell-store 144 room-for-frames l j f v hj hf (omega arith) ∙ ap (λ (X : ℕ → ℕ → ℕ). upd2 X j f v) (h .frames-are);
-  guests-are = cell-apart 0 9 144 l j f v hj (inl (omega arith)) ∙ h .guests-are;
+  length-is = length-store HEADER-WORDS l j f v ∙ h .length-is;
+  frames-are = cell-store HEADER-WORDS room-for-frames l j f v hj hf (omega arith) ∙ ap (λ (X : ℕ → ℕ → ℕ). upd2 X j f v) (h .frames-are);
+  guests-are = cell-apart 0 GUEST-ROWS HEADER-WORDS l j f v hj (inl (omega arith)) ∙ h .guests-are;
 }
 
-pub holds-guest : {len : ℕ} {l : List ℕ} {F G : ℕ → ℕ → ℕ} → Holds len l F G → (j g v : ℕ) → j < 16 → g < 9 → 144 ≤ len →
+pub holds-guest : {len : ℕ} {l : List ℕ} {F G : ℕ → ℕ → ℕ} → Holds len l F G → (j g v : ℕ) → j < ROW-WORDS → g < GUEST-ROWS →
+    HEADER-WORDS ≤ len →
     Holds len (store 0 l j g v) F (upd2 G j g v)
 holds-guest {len} {l} {F} {G} h j g v hj hg low = let k = h .length-is in record {
   length-is = length-store 0 l j g v ∙ h .length-is;
-  frames-are = cell-apart 144 room-for-frames 0 l j g v hj (inr (omega arith)) ∙ h .frames-are;
-  guests-are = cell-store 0 9 l j g v hj hg (omega arith) ∙ ap (λ (X : ℕ → ℕ → ℕ). upd2 X j g v) (h .guests-are);
+  frames-are = cell-apart HEADER-WORDS room-for-frames 0 l j g v hj (inr (omega arith)) ∙ h .frames-are;
+  guests-are = cell-store 0 GUEST-ROWS l j g v hj hg (omega arith) ∙ ap (λ (X : ℕ → ℕ → ℕ). upd2 X j g v) (h .guests-are);
 }
 
 pub changed : {φ : State → State} (l l′ : List ℕ) (F G : ℕ → ℕ → ℕ) → Holds (length l) l′ F G → Rows-sound (length l) F G →
@@ -39,7 +42,8 @@ changed l l′ F G h s e = record {
 }
 
 -- the same change in other words
-pub changed-as : {φ ψ : State → State} {l l′ : List ℕ} → Changed φ l l′ → ((ram : List ℕ) → φ (state-of ram l) ≡ ψ (state-of ram l)) → Changed ψ l l′
+pub changed-as : {φ ψ : State → State} {l l′ : List ℕ} → Changed φ l l′ → ((ram : List ℕ) → φ (state-of ram l) ≡ ψ (state-of ram l)) →
+    Changed ψ l l′
 changed-as c e = record { ledger-sound = c .ledger-sound; state = λ ram. c .state ram ∙ e ram }
 
 -- one after the other

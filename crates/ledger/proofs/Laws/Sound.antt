@@ -10,12 +10,13 @@ use lib.Dec.{eqb}
 use Rattle.model.proofs.Laws.Base.{eq?, sum-cong, sum-none, sum-point}
 use Rattle.model.specs.Base.{upd, sum}
 use Rattle.model.proofs.Laws.Base.{upd-same, upd-at, upd-other}
-use Rattle.model.specs.State.{Frame-kind, free, page, is-free, is-guest, free-frames}
+use Rattle.model.specs.State.{FREE, Frame-kind, free, page, is-free, is-guest, free-frames}
 use Rattle.model.specs.Entry.{Entry}
 use Rattle.model.specs.Translate.{entry-at}
 use Rattle.model.specs.Changes.{Choice}
 use Rattle.model.specs.Invariant.{hit, places, is-last, leads}
 use Rattle.model.proofs.Invariant.Core.{low as core-low}
+use Rattle.ledger.specs.Columns.{KIND, FRAME-AT, PLACE, SHARE-UNIT}
 use Rattle.ledger.specs.Layout.{frames, guest-rows, kind-at, pick-in, state-in, size-of, kind-of, exists-of, count-of, pick-of, state-of}
 use Rattle.ledger.proofs.Laws.FreeSet.{free-number, free-at, once-at}
 use Rattle.ledger.proofs.Laws.Kinds.{free-here, kind-here}
@@ -27,23 +28,26 @@ module _ (l : List ℕ) (s : Ledger-sound l) where
   pub free-is : (ram : List ℕ) → free-frames (state-of ram l) ≡ free-of l
   unfolding free-frames state-in
   free-is ram =
-      sum-cong (size-of l) (λ f. cond (is-free (kind-of l f)) 1 0) (λ f. cond (eqb (frames l 0 f) 1) 1 0) (λ f h. rw (free-here (frames l) (guest-rows l) f h))
-      ∙ free-number (size-of l) (frames l 0) (frames l 12) (frames l 13) (free-of l) (s .free-set)
+      sum-cong (size-of l) (λ f. cond (is-free (kind-of l f)) 1 0) (λ f. cond (eqb (frames l KIND f) FREE) 1 0)
+      (λ f h. rw (free-here (frames l) (guest-rows l) f h))
+      ∙ free-number (size-of l) (frames l KIND) (frames l FRAME-AT) (frames l PLACE) (free-of l) (s .free-set)
 
   -- the frame that comes next
   pub picked : (i : ℕ) → i < free-of l → (pick-of l i < size-of l) × (kind-of l (pick-of l i) ≡ free)
   unfolding pick-in
   picked i h =
-      let a = free-at (size-of l) (frames l 0) (frames l 12) (frames l 13) (free-of l) (s .free-set) (free-of l - 1 - i) (omega arith) in
-      (a .0, kind-here (frames l) (guest-rows l) (frames l 12 (free-of l - 1 - i)) (a .0) ∙ free-one _ _ _ _ (a .1))
+      let a = free-at (size-of l) (frames l KIND) (frames l FRAME-AT) (frames l PLACE) (free-of l) (s .free-set) (free-of l - 1 - i)
+      (omega arith) in
+      (a .0, kind-here (frames l) (guest-rows l) (frames l FRAME-AT (free-of l - 1 - i)) (a .0) ∙ free-one _ _ _ _ (a .1))
     where
-      free-one : (k g h p : ℕ) → k ≡ 1 → kind-at k g h p ≡ free
+      free-one : (k g h p : ℕ) → k ≡ FREE → kind-at k g h p ≡ free
       free-one k g h p e = rw e (unfold kind-at in refl)
 
-  pub next-is : (c r : ℕ) → 0 < free-of l → c ≡ free-of l → r ≡ frames l 12 (c - 1) → (r ≡ pick-of l 0) × (r < size-of l) × (kind-of l r ≡ free)
+  pub next-is : (c r : ℕ) → 0 < free-of l → c ≡ free-of l → r ≡ frames l FRAME-AT (c - 1) →
+      (r ≡ pick-of l 0) × (r < size-of l) × (kind-of l r ≡ free)
   unfolding pick-in
   next-is c r some a b =
-      let e : r ≡ frames l 12 (free-of l - 1 - 0) = b ∙ ap (frames l 12) (omega arith) in
+      let e : r ≡ frames l FRAME-AT (free-of l - 1 - 0) = b ∙ ap (frames l FRAME-AT) (omega arith) in
       let p = picked 0 some in
       rw e (refl, p .0, p .1)
 
@@ -53,7 +57,8 @@ module _ (l : List ℕ) (s : Ledger-sound l) where
     frees = λ i h. picked i (omega (arith, free-is ram)) .1;
     once = λ i j h k e.
         let few = s .free-set .few in
-        let z = once-at (size-of l) (frames l 0) (frames l 12) (frames l 13) (free-of l) (s .free-set) (free-of l - 1 - i) (free-of l - 1 - j) (omega (arith, free-is ram)) (omega (arith, free-is ram)) e in
+        let z = once-at (size-of l) (frames l KIND) (frames l FRAME-AT) (frames l PLACE) (free-of l) (s .free-set) (free-of l - 1 - i)
+        (free-of l - 1 - j) (omega (arith, free-is ram)) (omega (arith, free-is ram)) e in
         omega (arith, free-is ram);
   }
 
@@ -76,7 +81,7 @@ hit-most x e f g = go (is-last x g && leads e f)
 
 module _ (ram l : List ℕ) (ok : Sound ram l) where
   -- a page's own frame has no entries, so one place more always fits
-  pub count-fits : (f o g : ℕ) → kind-of l f ≡ page o → count-of l f g + 512 ≤ 2 ^ 30
+  pub count-fits : (f o g : ℕ) → kind-of l f ≡ page o → count-of l f g + 512 ≤ SHARE-UNIT
   unfolding state-in places
   count-fits f o g p =
       let a = ok .core .counts f g in
@@ -96,7 +101,8 @@ module _ (ram l : List ℕ) (ok : Sound ram l) where
       bound : (t : ℕ) → upd rows f 512 t ≤ 512
       bound t = elim (eq? t f) [
         | inl e ↦ rw (upd-at rows f 512 t e) (omega arith)
-        | inr e ↦ rw (upd-other rows f 512 t e) (sum-most 512 1 (λ i. hit (kind-of l t) (entry-at (state-of ram l) t i) f g) (λ i. hit-most (kind-of l t) (entry-at (state-of ram l) t i) f g))
+        | inr e ↦ rw (upd-other rows f 512 t e) (sum-most 512 1 (λ i. hit (kind-of l t) (entry-at (state-of ram l) t i) f g)
+            (λ i. hit-most (kind-of l t) (entry-at (state-of ram l) t i) f g))
       ]
 
   -- a frame that is there lies in RAM

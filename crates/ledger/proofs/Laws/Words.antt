@@ -30,16 +30,20 @@ word-zero m at h = word-agree m [] at (λ j u v. h j u v) ∙ nothing at
 module _ (m : List ℕ) (f : ℕ) (room : Within m f) where
   pub word-stored : (i x : ℕ) → i < 512 → x < 2 ^ 64 → word-of (stored-at m (f * 4096 + i * 8) x) ≡ upd2 (word-of m) f i x
   unfolding word-of
-  word-stored i x hi hx = fun-ext (λ a. fun-ext (λ b. elim (lt? b 512) [ inl l ↦ inside a b l (eq? a f) (eq? b i) | inr l ↦ outside a b l ]))
+  word-stored i x hi hx = fun-ext (λ a. fun-ext (λ b. elim (lt? b 512)
+      [ inl l ↦ inside a b l (eq? a f) (eq? b i) | inr l ↦ outside a b l ]))
     where
       outside : (a b : ℕ) → 512 ≤ b → word-of (stored-at m (f * 4096 + i * 8) x) a b ≡ upd2 (word-of m) f i x a b
       outside a b l = rw (upd2-other (word-of m) f i x a b (λ p (q : b ≡ i). omega arith), le-ltb b 512 l)
 
-      away : (a b : ℕ) → b < 512 → (a ≡ f → b ≡ i → ⊥) → word-at (stored-at m (f * 4096 + i * 8) x) (a * 4096 + b * 8) ≡ word-at m (a * 4096 + b * 8)
+      away : (a b : ℕ) → b < 512 → (a ≡ f → b ≡ i → ⊥) → word-at (stored-at m (f * 4096 + i * 8) x) (a * 4096 + b * 8) ≡ word-at m
+          (a * 4096 + b * 8)
       away a b l ne = word-other m (f * 4096 + i * 8) x (a * 4096 + b * 8) (λ p q. ne (omega arith) (omega arith))
 
-      inside : (a b : ℕ) → b < 512 → (a ≡ f) ⊎ (a ≡ f → ⊥) → (b ≡ i) ⊎ (b ≡ i → ⊥) → word-of (stored-at m (f * 4096 + i * 8) x) a b ≡ upd2 (word-of m) f i x a b
-      inside a b l (inl p) (inl q) = rw (upd2-at (word-of m) f i x a b p q, lt-ltb b 512 l, p, q) (word-same m (f * 4096 + i * 8) x (omega arith) hx)
+      inside : (a b : ℕ) → b < 512 → (a ≡ f) ⊎ (a ≡ f → ⊥) → (b ≡ i) ⊎ (b ≡ i → ⊥) →
+          word-of (stored-at m (f * 4096 + i * 8) x) a b ≡ upd2 (word-of m) f i x a b
+      inside a b l (inl p) (inl q) = rw (upd2-at (word-of m) f i x a b p q, lt-ltb b 512 l, p, q)
+          (word-same m (f * 4096 + i * 8) x (omega arith) hx)
       inside a b l (inl p) (inr q) = rw (upd2-other (word-of m) f i x a b (λ _ y. q y), lt-ltb b 512 l) (away a b l (λ _ y. q y))
       inside a b l (inr p) q = rw (upd2-other (word-of m) f i x a b (λ y _. p y), lt-ltb b 512 l) (away a b l (λ y _. p y))
 
@@ -51,11 +55,14 @@ module _ (m : List ℕ) (f : ℕ) (room : Within m f) where
       outside a b l (inl p) = rw (upd-at (word-of m) f zeros a p, le-ltb b 512 l)
       outside a b l (inr p) = rw (upd-other (word-of m) f zeros a p, le-ltb b 512 l)
 
-      far : (a b : ℕ) → (a ≡ f → ⊥) → b < 512 → (j : ℕ) → a * 4096 + b * 8 ≤ j → j < a * 4096 + b * 8 + 8 → f * 4096 ≤ j → j < f * 4096 + 4096 → ⊥
+      far : (a b : ℕ) → (a ≡ f → ⊥) → b < 512 → (j : ℕ) → a * 4096 + b * 8 ≤ j → j < a * 4096 + b * 8 + 8 → f * 4096 ≤ j →
+          j < f * 4096 + 4096 → ⊥
       far a b ne l j p q u v = ne (omega arith)
 
       inside : (a b : ℕ) → b < 512 → (a ≡ f) ⊎ (a ≡ f → ⊥) → word-of (cleared-at m (f * 4096) 4096) a b ≡ upd (word-of m) f zeros a b
-      inside a b l (inl p) = rw (upd-at (word-of m) f zeros a p, lt-ltb b 512 l, p) (word-zero (cleared-at m (f * 4096) 4096) (f * 4096 + b * 8) (λ j u v. cleared-byte m (f * 4096) 4096 j room (omega arith) (omega arith)))
+      inside a b l (inl p) = rw (upd-at (word-of m) f zeros a p, lt-ltb b 512 l, p)
+          (word-zero (cleared-at m (f * 4096) 4096) (f * 4096 + b * 8)
+          (λ j u v. cleared-byte m (f * 4096) 4096 j room (omega arith) (omega arith)))
       inside a b l (inr p) =
           rw (upd-other (word-of m) f zeros a p, lt-ltb b 512 l)
           (word-agree (cleared-at m (f * 4096) 4096) m (a * 4096 + b * 8) (λ j u v. cleared-other m (f * 4096) 4096 j (far a b p l j u v)))

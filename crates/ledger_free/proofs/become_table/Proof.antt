@@ -21,7 +21,8 @@ same-length : tie.Need-same-length
 same-length c = search needs
 
 returns : tie.Need-returns
-returns c = table-taken _ (c .before .before .before .before .before .before .before .before .before .before .before .before .before .before .before .before .before .pre .0) _ (c .before .before .before .before .before .before .before .before .before .before .before .before .before .before .before .before .before .pre .1 .0) (c .before .before .before .before .before .before .before .before .before .before .before .before .before .before .before .before .before .pre .1 .1 .0) (c .before .before .before .before .before .before .before .before .before .before .before .before .before .before .occupy .ensures) (c .before .before .before .before .before .before .before .before .before .before .store-of-frame .ensures) (c .before .before .before .before .before .before .store-of-frame2 .ensures) (c .before .before .store-of-frame3 .ensures)
+returns c = table-taken _ (c .before .before .before .before .before .before .before .before .before .before .before .before .before .before .before .before .before .pre .0) _ (c .before .before .before .before .before .before .before .before .before .before .before .before .before .before .before .before .before .pre .1 .0) (c .before .before .before .before .before .before .before .before .before .before .before .before .before .before .before .before .before .pre .1 .1 .0) (c .before .before .before .before .before .before .before .before .before .before .before .before .before .before .occupy .ensures) (c .before .before .before .before .before .before .before .before .before .before .store-of-frame .ensures)
+    (c .before .before .before .before .before .before .store-of-frame2 .ensures) (c .before .before .store-of-frame3 .ensures)
 
 pub become-table-spec : {M : Type 1} → statement M
 become-table-spec =

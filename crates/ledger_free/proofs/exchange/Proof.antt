@@ -13,7 +13,10 @@ of-frame-requires-2 : tie.Need-of-frame-requires-2
 of-frame-requires-2 c κs = search needs
 
 place-requires : tie.Need-place-requires
-place-requires c κs = (frame-row _ (c .before .before .before .before .before .before .pre .0) (c .before .before .before .before .before .before .args .f) (c .before .before .before .before .before .before .pre .1 .0) (c .before .before .before .before .before .before .pre .1 .1) (c .before .of-frame2 .ensures .0), place-row _ (c .before .before .before .before .before .before .pre .0) _ (c .before .before .before .before .before .before .pre .1 .0) (c .before .before .before .of-frame .ensures .0))
+place-requires c κs = (
+  frame-row _ (c .before .before .before .before .before .before .pre .0) (c .before .before .before .before .before .before .args .f) (c .before .before .before .before .before .before .pre .1 .0) (c .before .before .before .before .before .before .pre .1 .1) (c .before .of-frame2 .ensures .0),
+  place-row _ (c .before .before .before .before .before .before .pre .0) _ (c .before .before .before .before .before .before .pre .1 .0) (c .before .before .before .of-frame .ensures .0),
+)
 
 place-requires-2 : tie.Need-place-requires-2
 place-requires-2 c κs = search needs

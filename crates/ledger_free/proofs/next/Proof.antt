@@ -15,7 +15,8 @@ of-frame-requires : tie.Need-of-frame-requires
 of-frame-requires c κs = search needs
 
 returns : tie.Need-returns
-returns c = next-is (c .before .before .before .args .ledger .now) (c .before .before .before .pre .0) (c .before .of-guest .result) (c .of-frame .result) (c .before .before .before .pre .1) (c .before .of-guest .ensures .0) (c .of-frame .ensures .0)
+returns c = next-is (c .before .before .before .args .ledger .now) (c .before .before .before .pre .0) (c .before .of-guest .result) (c .of-frame .result) (c .before .before .before .pre .1) (c .before .of-guest .ensures .0)
+    (c .of-frame .ensures .0)
 
 pub next-spec : {M : Type 1} → statement M
 next-spec = tie.close (tie.spec of-guest-requires sub-last of-frame-requires returns)

@@ -12,7 +12,7 @@ use Rattle.model.specs.Operations.{shares}
 use Rattle.model.specs.Cache.{Access, reading, writing, executing, grants}
 use Rattle.model.specs.Machine.{Machine, Reaches}
 use Rattle.model.specs.Terms.{lends, Allowed}
-use Rattle.model.specs.State.{sort}
+use Rattle.model.specs.State.{kind-number, DRAINING-PAGE, PAGE}
 use Rattle.model.proofs.Invariant.Kinds.{clash}
 use Rattle.model.specs.Invariant.{May, Core}
 use Rattle.model.proofs.Invariant.Core.{low}
@@ -75,7 +75,7 @@ of-owner s g f o w e (inr (inl a)) = inr (a .2)
 of-owner s g f o w e (inr (inr a)) = absurd (clash {x = page o} {y = draining-page g} (sym e ∙ a) refl)
 
 -- frames that are neither pages nor drain as pages
-pub not-allowed : (s : State) (g f : ℕ) (w : Access) (x : Frame-kind) → s .kind f ≡ x → eqb 4 (sort x) ≡ false → eqb 5 (sort x) ≡ false → Allowed s g f w → ⊥
+pub not-allowed : (s : State) (g f : ℕ) (w : Access) (x : Frame-kind) → s .kind f ≡ x → eqb PAGE (kind-number x) ≡ false → eqb DRAINING-PAGE (kind-number x) ≡ false → Allowed s g f w → ⊥
 not-allowed s g f w x e a b (inl h) = clash {x = page g} {y = x} (sym h ∙ e) a
 not-allowed s g f w x e a b (inr (inl h)) = clash {x = page (h .0)} {y = x} (sym (h .1) ∙ e) a
 not-allowed s g f w x e a b (inr (inr h)) = clash {x = draining-page g} {y = x} (sym h ∙ e) b

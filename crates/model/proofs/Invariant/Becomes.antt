@@ -12,7 +12,7 @@ use Rattle.model.specs.Entry.{to-page, entry}
 use Rattle.model.specs.Translate.{entry-at}
 use Rattle.model.specs.Changes.{becomes}
 use Rattle.model.specs.Cache.{Caches}
-use Rattle.model.specs.State.{sort}
+use Rattle.model.specs.State.{kind-number, DRAINING-PAGE, DRAINING-TABLE, MONITOR, TABLE}
 use Rattle.model.proofs.Invariant.Kinds.{clash, kind-keep, kind-from}
 use Rattle.model.specs.Invariant.{May, Core, Kept}
 use Rattle.model.proofs.Invariant.Core.{fits-keep, stale-keep}
@@ -20,10 +20,10 @@ use Rattle.model.proofs.Invariant.Counts.{places-cong, hit-plain}
 
 -- no table, not draining, not the monitor's
 abbrev pub plain : Frame-kind → Type 0
-plain x = (eqb (sort x) 2 ≡ false) × (eqb (sort x) 3 ≡ false) × (eqb (sort x) 5 ≡ false) × (eqb (sort x) 0 ≡ false)
+plain x = (eqb (kind-number x) TABLE ≡ false) × (eqb (kind-number x) DRAINING-TABLE ≡ false) × (eqb (kind-number x) DRAINING-PAGE ≡ false) × (eqb (kind-number x) MONITOR ≡ false)
 
 module _ (s : State) (c : Core s) (f : ℕ) (x y : Frame-kind) (w sh : ℕ → ℕ → ℕ) (hf : s .kind f ≡ x) (px : plain x)
-    (y2 : eqb (sort y) 2 ≡ false) (y3 : eqb (sort y) 3 ≡ false) (hw : (t : ℕ) → (t ≡ f → ⊥) → (i : ℕ) → w t i ≡ s .word t i) where
+    (y2 : eqb (kind-number y) TABLE ≡ false) (y3 : eqb (kind-number y) DRAINING-TABLE ≡ false) (hw : (t : ℕ) → (t ≡ f → ⊥) → (i : ℕ) → w t i ≡ s .word t i) where
   table-not : (t g h p : ℕ) → s .kind t ≡ table g h p → t ≡ f → ⊥
   table-not t g h p a e = clash {x = x} {y = table g h p} (sym hf ∙ ap (s .kind) (sym e) ∙ a) (px .0)
 

@@ -7,7 +7,7 @@ use lib.Dec.{eqb}
 use Rattle.model.specs.State.{State, Frame-kind, byte-of, put-byte, byte}
 use Rattle.model.specs.Operations.{done}
 use Rattle.model.specs.Machine.{Operation, answer, Chooses}
-use Rattle.model.specs.State.{sort}
+use Rattle.model.specs.State.{kind-number, FREE, TABLE}
 use Rattle.model.specs.Invariant.{Core}
 use Rattle.model.proofs.Invariant.Answer.{then-is}
 use Rattle.model.proofs.Invariant.Orderly.{orderly}
@@ -31,7 +31,7 @@ unfolding byte-of
 byte-zero zero = refl
 byte-zero (suc k) = byte-zero k
 
-pub bytes-stay : (s : State) (c : Core s) (o : Operation) → Chooses s o → (s′ : State) → answer s o ≡ done s′ → (f : ℕ) (x : Frame-kind) → s .kind f ≡ x → eqb 1 (sort x) ≡ false → eqb 2 (sort x) ≡ false →
+pub bytes-stay : (s : State) (c : Core s) (o : Operation) → Chooses s o → (s′ : State) → answer s o ≡ done s′ → (f : ℕ) (x : Frame-kind) → s .kind f ≡ x → eqb FREE (kind-number x) ≡ false → eqb TABLE (kind-number x) ≡ false →
     (i : ℕ) → byte s′ f i ≡ byte s f i
 unfolding byte
 bytes-stay s c o ch s′ e f x k a b i = ap (byte-of (i % 8)) (then-is (answer s o) s′ (orderly s c o ch) e .words f x k a b (i / 8))

@@ -9,7 +9,7 @@ use Rattle.model.proofs.Laws.Base.{lt?}
 use Rattle.model.specs.State.{State, Frame-kind, monitor, table, draining-table, draining-page, page-count}
 use Rattle.model.specs.Entry.{Entry, empty, to-table, to-page, other}
 use Rattle.model.specs.Invariant.{Leads-to, Fits, Stale, Core}
-use Rattle.model.specs.State.{sort}
+use Rattle.model.specs.State.{kind-number, MONITOR}
 use Rattle.model.proofs.Invariant.Kinds.{clash}
 
 leads-keep : (T T′ : (t h q : ℕ) → Type 0) (P P′ : (f r : ℕ) → Type 0) → ((t h q : ℕ) → T t h q → T′ t h q) →
@@ -32,8 +32,8 @@ pub stale-keep : (kind kind′ : ℕ → Frame-kind) (g : ℕ) →
 stale-keep kind kind′ g a b h q e =
     leads-keep (λ t h q. kind t ≡ draining-table g h q) (λ t h q. kind′ t ≡ draining-table g h q) (λ f r. kind f ≡ draining-page g) (λ f r. kind′ f ≡ draining-page g) a h q e (λ f r _ _. b f)
 
-pub low : (s : State) → Core s → (t : ℕ) (x : Frame-kind) → s .kind t ≡ x → eqb 0 (sort x) ≡ false → t < s .size
+pub low : (s : State) → Core s → (t : ℕ) (x : Frame-kind) → s .kind t ≡ x → eqb MONITOR (kind-number x) ≡ false → t < s .size
 low s c t x h q = elim (lt? t (s .size)) [ inl l ↦ l | inr l ↦ absurd (clash {x = monitor} {y = x} (sym (c .beyond t l) ∙ h) q) ]
 
-pub in-room : (s : State) → Core s → (t : ℕ) (x : Frame-kind) → s .kind t ≡ x → eqb 0 (sort x) ≡ false → s .first + t < page-count
+pub in-room : (s : State) → Core s → (t : ℕ) (x : Frame-kind) → s .kind t ≡ x → eqb MONITOR (kind-number x) ≡ false → s .first + t < page-count
 in-room s c t x h q = let l = low s c t x h q in let r = c .room in omega arith

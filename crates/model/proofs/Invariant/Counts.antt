@@ -10,7 +10,7 @@ use Rattle.model.proofs.Laws.Base.{sum-cong, sum-zero, sum2-point}
 use Rattle.model.specs.State.{State, Frame-kind, monitor, free, table, draining-table, page, draining-page}
 use Rattle.model.specs.Entry.{Entry, empty, to-page}
 use Rattle.model.specs.Translate.{entry-at}
-use Rattle.model.specs.State.{sort}
+use Rattle.model.specs.State.{kind-number, TABLE}
 use Rattle.model.proofs.Invariant.Kinds.{clash}
 use Rattle.model.specs.Invariant.{is-last, leads, hit, places}
 
@@ -43,7 +43,7 @@ hit-high g h p e f g′ = rw (ne-eqb (suc h) 0 (λ z. omega arith)) (go (eqb g g
     go false x = refl
 
 -- only tables lead anywhere
-pub hit-plain : (x : Frame-kind) (e : Entry) (f g : ℕ) → eqb (sort x) 2 ≡ false → hit x e f g ≡ 0
+pub hit-plain : (x : Frame-kind) (e : Entry) (f g : ℕ) → eqb (kind-number x) TABLE ≡ false → hit x e f g ≡ 0
 unfolding hit
 hit-plain monitor e f g q = refl
 hit-plain free e f g q = refl

@@ -15,7 +15,7 @@ use Rattle.model.specs.Translate.{entry-at}
 use Rattle.model.specs.Changes.{Choice, zeros, with-root}
 use Rattle.model.specs.Operations.{create}
 use Rattle.model.specs.Cache.{Caches}
-use Rattle.model.specs.State.{sort}
+use Rattle.model.specs.State.{kind-number, FREE, TABLE}
 use Rattle.model.proofs.Invariant.Kinds.{clash, kind-keep, kind-from}
 use Rattle.model.specs.Invariant.{May, Core, Kept}
 use Rattle.model.proofs.Invariant.Core.{fits-keep, stale-keep}
@@ -24,13 +24,13 @@ use Rattle.model.proofs.Invariant.Choice.{first-free}
 use Rattle.model.proofs.Invariant.Answer.{Good, then-done, checked}
 
 module _ (s : State) (c : Core s) (g t : ℕ) (none : s .exists g ≡ false) (hg : is-guest g ≡ true) (hf : s .kind t ≡ free) where
-  keep : (u : ℕ) (x : Frame-kind) → s .kind u ≡ x → eqb 1 (sort x) ≡ false → upd (s .kind) t (table g 3 0) u ≡ x
+  keep : (u : ℕ) (x : Frame-kind) → s .kind u ≡ x → eqb FREE (kind-number x) ≡ false → upd (s .kind) t (table g 3 0) u ≡ x
   keep u x a k = kind-keep (s .kind) t free (table g 3 0) hf u x a k
 
-  from : (u : ℕ) (x : Frame-kind) → upd (s .kind) t (table g 3 0) u ≡ x → eqb 2 (sort x) ≡ false → s .kind u ≡ x
+  from : (u : ℕ) (x : Frame-kind) → upd (s .kind) t (table g 3 0) u ≡ x → eqb TABLE (kind-number x) ≡ false → s .kind u ≡ x
   from u x a k = kind-from (s .kind) t (table g 3 0) u x a k
 
-  pub root-word : (u : ℕ) (x : Frame-kind) → s .kind u ≡ x → eqb 1 (sort x) ≡ false → (j : ℕ) → upd (s .word) t zeros u j ≡ s .word u j
+  pub root-word : (u : ℕ) (x : Frame-kind) → s .kind u ≡ x → eqb FREE (kind-number x) ≡ false → (j : ℕ) → upd (s .word) t zeros u j ≡ s .word u j
   root-word u x a k j = rw (upd-other (s .word) t zeros u (λ (e : u ≡ t). clash {x = free} {y = x} (sym hf ∙ ap (s .kind) (sym e) ∙ a) k))
 
   may : (g′ f r : ℕ) → May s g′ f r → May (with-root s g t) g′ f r

@@ -93,13 +93,13 @@ module _ (g : ℕ) where
       go (was-table m q a b) = rw b
       go (was-page a b) = rw b
 
-  module _ (s : State) (c : Core s) (alone : all (s .size) (unshared s g) ≡ true) where
+  module _ (s : State) (c : Core s) (alone : all (s .size) (λ f. unshared s f g) ≡ true) where
     -- nothing is shared with g
     not-with : (f o : ℕ) → s .kind f ≡ page o → s .shared f g ≡ 0
     unfolding unshared
     not-with f o a = eqb-true (s .shared f g) 0 (and-true (eqb (s .shared f g) 0) (not (is-page-of (s .kind f) g) || eqb (total (s .shared f)) 0)
         (or-right (is-page (s .kind f)) (eqb (s .shared f g) 0 && (not (is-page-of (s .kind f) g) || eqb (total (s .shared f)) 0))
-        (all-true (s .size) (unshared s g) alone f (low s c f (page o) a refl)) (rw a)) .0)
+        (all-true (s .size) (λ f. unshared s f g) alone f (low s c f (page o) a refl)) (rw a)) .0)
 
     -- and nothing of g's with anybody
     pub not-of : (f h : ℕ) → s .kind f ≡ page g → s .shared f h ≡ 0
@@ -107,7 +107,7 @@ module _ (g : ℕ) where
     not-of f h a = with-nobody s c f g a (eqb-true (total (s .shared f)) 0
         (or-right (is-page-of (s .kind f) g) (eqb (total (s .shared f)) 0) (and-true (eqb (s .shared f g) 0) (not (is-page-of (s .kind f) g) || eqb (total (s .shared f)) 0)
         (or-right (is-page (s .kind f)) (eqb (s .shared f g) 0 && (not (is-page-of (s .kind f) g) || eqb (total (s .shared f)) 0))
-        (all-true (s .size) (unshared s g) alone f (low s c f (page g) a refl)) (rw a)) .1) (rw a (eq-eqb g g refl)))) h
+        (all-true (s .size) (λ f. unshared s f g) alone f (low s c f (page g) a refl)) (rw a)) .1) (rw a (eq-eqb g g refl)))) h
 
     may-keep : (h f r : ℕ) → (h ≡ g → ⊥) → May s h f r → May (without-guest s g) h f r
     unfolding without-guest drained

@@ -161,7 +161,7 @@ map-row s c f g a r pick ch =
     v : ℕ
     v = a / 4096
 
-unmap-row : (s : State) (c : Core s) (g a : ℕ) → Then (Row s (Unmap g a)) (unmap s g a)
+unmap-row : (s : State) (c : Core s) (g a : ℕ) → Then (Row s (Unmap a g)) (unmap s a g)
 unfolding unmap expected
 unmap-row s c g a =
     checked 5 λ e1. checked 7 λ e2. checked 11 λ e3.
@@ -179,7 +179,7 @@ rows s c (Give f g) ch = checked 5 λ e1. checked 4 λ e2. checked 6 λ e3.
     rw (upd-other (s .word) f zeros t (λ (e : t ≡ f). clash {x = free} {y = table h n p} (sym (free-is (s .kind f) e3) ∙ ap (s .kind) (sym e) ∙ a) refl))))
 rows s c (Take f g) ch = checked 5 λ e1. checked 4 λ e2. checked 9 λ e3. checked 13 λ e4. then-done (becomes-same s c f (cond (s .dirty g) (draining-page g) free) (s .word) (s .shared) (λ t h n p a i. refl))
 rows s c (Map f g a r pick) ch = map-row s c f g a r pick ch
-rows s c (Unmap g a) ch = unmap-row s c g a
+rows s c (Unmap a g) ch = unmap-row s c g a
 rows s c (Share g f h w) ch = checked 5 λ e1. checked 12 λ e2. checked 4 λ e3. checked 9 λ e4. checked 13 λ e5. checked 14 λ e6.
     then-done (becomes-same s c f (page g) (s .word) (upd2 (s .shared) f h (cond (eqb w 0) 1 2)) (λ t h n p a i. refl))
 rows s c (Unshare g f h) ch = checked 5 λ e1. checked 4 λ e2. checked 9 λ e3. checked 13 λ e4. checked 14 λ e5. then-done (becomes-same s c f (page g) (s .word) (upd2 (s .shared) f h 0) (λ t h n p a i. refl))
@@ -187,10 +187,10 @@ rows s c (Destroy g) ch = checked 5 λ e1. checked 13 λ e2. then-done (destroye
 rows s c (Invalidated g) ch = checked 1 λ e1. then-done (clean-same s c g)
 
 -- unmap, at the address itself
-pub unmapped-after : (s : State) (c : Core s) (g a : ℕ) (s′ : State) → unmap s g a ≡ done s′ → translate s′ g (a / 4096) ≡ none
-unmapped-after s c g a s′ e = then-is (unmap s g a) s′ here-none e
+pub unmapped-after : (s : State) (c : Core s) (g a : ℕ) (s′ : State) → unmap s a g ≡ done s′ → translate s′ g (a / 4096) ≡ none
+unmapped-after s c g a s′ e = then-is (unmap s a g) s′ here-none e
   where
-    here-none : Then (λ s′. translate s′ g (a / 4096) ≡ none) (unmap s g a)
+    here-none : Then (λ s′. translate s′ g (a / 4096) ≡ none) (unmap s a g)
     here-none = unfold unmap in checked 5 λ e1. checked 7 λ e2. checked 11 λ e3.
         let o = some-is (translate s g (a / 4096)) e3 in
         let w = translate-from s g (a / 4096) (o .0) (o .1) (o .2) in

@@ -55,7 +55,7 @@ pub only-short : (s : State) (f g a r : ℕ) (pick : ℕ → ℕ) → map s f g 
 unfolding map
 only-short s f g a r pick e =
     past (s .exists g) 5 (omega arith) e λ e. past (not (s .dirty g)) 14 (omega arith) e λ e. past (page-address a) 7 (omega arith) e λ e. past (is-rights r) 8 (omega arith) e λ e.
-    past (ltb f (s .size)) 4 (omega arith) e λ e. past (may-map s g f r) 9 (omega arith) e λ e. past (not (mapped s g (a / 4096))) 10 (omega arith) e λ e. last (leb (missing s g (a / 4096)) (free-frames s)) refl e
+    past (ltb f (s .size)) 4 (omega arith) e λ e. past (may-map s f g r) 9 (omega arith) e λ e. past (not (mapped s g (a / 4096))) 10 (omega arith) e λ e. last (leb (missing s g (a / 4096)) (free-frames s)) refl e
   where
     past : {P : Type 0} (b : Bool) (k : ℕ) {o : Out} → (k ≡ 3 → ⊥) → check b k o ≡ refuse 3 → (o ≡ refuse 3 → P) → P
     past true k ne e then-do = then-do (unfold check in e)

@@ -15,7 +15,7 @@ use Rattle.model.specs.Translate.{entry-at}
 use Rattle.model.specs.Changes.{becomes, zeros}
 use Rattle.model.specs.Operations.{done, shares, give, take}
 use Rattle.model.specs.Cache.{Caches}
-use Rattle.model.specs.State.{sort}
+use Rattle.model.specs.State.{kind-number, DRAINING-TABLE, PAGE, TABLE}
 use Rattle.model.proofs.Invariant.Kinds.{clash, kind-keep, kind-from, free-is, page-of-is}
 use Rattle.model.specs.Invariant.{May, Core, Kept}
 use Rattle.model.proofs.Invariant.Core.{low}
@@ -55,7 +55,7 @@ module _ (s : State) (c : Core s) where
 
 module _ (s : State) (c : Core s) (k : Caches) (q : Kept s k) where
   -- somebody's page stays so when a frame that is no page changes
-  may-else : (f : ℕ) (x y : Frame-kind) (w : ℕ → ℕ → ℕ) (sh : ℕ → ℕ) → s .kind f ≡ x → eqb (sort x) 4 ≡ false → (g f′ r : ℕ) → May s g f′ r →
+  may-else : (f : ℕ) (x y : Frame-kind) (w : ℕ → ℕ → ℕ) (sh : ℕ → ℕ) → s .kind f ≡ x → eqb (kind-number x) PAGE ≡ false → (g f′ r : ℕ) → May s g f′ r →
       May (becomes s f y w (upd (s .shared) f sh)) g f′ r
   unfolding becomes
   may-else f x y w sh hf n g f′ r (inl h) = inl (kind-keep (s .kind) f x y hf f′ (page g) h n)
@@ -106,13 +106,13 @@ module _ (s : State) (c : Core s) (k : Caches) (q : Kept s k) where
     may-other g′ f′ r ne (inl h) = inl (upd-other (s .kind) f y f′ ne ∙ h)
     may-other g′ f′ r ne (inr h) = inr (h .0, upd-other (s .kind) f y f′ ne ∙ h .1, h .2)
 
-    take-core : eqb (sort y) 2 ≡ false → eqb (sort y) 3 ≡ false → eqb (sort y) 4 ≡ false → Core (becomes s f y (s .word) (s .shared))
+    take-core : eqb (kind-number y) TABLE ≡ false → eqb (kind-number y) DRAINING-TABLE ≡ false → eqb (kind-number y) PAGE ≡ false → Core (becomes s f y (s .word) (s .shared))
     take-core y2 y3 y4 = becomes-core s c f (page g) y (s .word) (s .shared) hf (refl, refl, refl, refl) y2 y3 (λ t ne i. refl)
         (λ g′ t p i f′ r a b d m. may-other g′ f′ r (λ (e : f′ ≡ f). unmapped s c f zm g′ t p i r a b (d ∙ ap (λ (z : ℕ). to-page z r) e)) m)
         (λ g′ e. absurd (clash {x = y} {y = page g′} e y4))
         (λ f′ o h a l. c .strangers f′ o h (kind-from (s .kind) f y f′ (page o) a y4) l)
 
-    take-kept : eqb (sort y) 2 ≡ false → eqb (sort y) 3 ≡ false → (s .dirty g ≡ true → y ≡ draining-page g) → Kept (becomes s f y (s .word) (s .shared)) k
+    take-kept : eqb (kind-number y) TABLE ≡ false → eqb (kind-number y) DRAINING-TABLE ≡ false → (s .dirty g ≡ true → y ≡ draining-page g) → Kept (becomes s f y (s .word) (s .shared)) k
     take-kept y2 y3 yd = becomes-kept s c f (page g) y (s .word) (s .shared) hf (refl, refl, refl, refl) y2 y3 (λ t ne i. refl) k q (λ g′ v f′ r a b.
         elim (eq? f′ f) [
           | inr e ↦ elim b [ inl m ↦ inl (may-other g′ f′ r e m) | inr m ↦ inr (upd-other (s .kind) f y f′ e ∙ m) ]

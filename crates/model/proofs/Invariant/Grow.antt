@@ -15,7 +15,7 @@ use Rattle.model.proofs.Laws.Entry.{entry-empty}
 use Rattle.model.specs.Translate.{upper, index, entry-at, into, descend, missing-from, Page, page-in, page-at}
 use Rattle.model.specs.Changes.{Choice, with-table, grow}
 use Rattle.model.specs.Cache.{Caches}
-use Rattle.model.specs.State.{sort}
+use Rattle.model.specs.State.{kind-number, FREE, TABLE}
 use Rattle.model.proofs.Invariant.Kinds.{clash}
 use Rattle.model.specs.Invariant.{May, Core, Kept}
 use Rattle.model.proofs.Invariant.Way.{step-kind}
@@ -98,9 +98,9 @@ pub record Grew (k : Caches) (s : State) (h g t v : ℕ) (s′ : State) (u : ℕ
   pub count : s′ .count ≡ s .count
   pub dirty : s′ .dirty ≡ s .dirty
   -- only free frames become something, and only they and tables change
-  pub kinds : (f : ℕ) (x : Frame-kind) → s .kind f ≡ x → eqb 1 (sort x) ≡ false → s′ .kind f ≡ x
-  pub from : (f : ℕ) (x : Frame-kind) → s′ .kind f ≡ x → (s .kind f ≡ x) ⊎ ((s .kind f ≡ free) × (eqb 2 (sort x) ≡ true))
-  pub words : (f : ℕ) (x : Frame-kind) → s .kind f ≡ x → eqb 1 (sort x) ≡ false → eqb 2 (sort x) ≡ false → (i : ℕ) → s′ .word f i ≡ s .word f i
+  pub kinds : (f : ℕ) (x : Frame-kind) → s .kind f ≡ x → eqb FREE (kind-number x) ≡ false → s′ .kind f ≡ x
+  pub from : (f : ℕ) (x : Frame-kind) → s′ .kind f ≡ x → (s .kind f ≡ x) ⊎ ((s .kind f ≡ free) × (eqb TABLE (kind-number x) ≡ true))
+  pub words : (f : ℕ) (x : Frame-kind) → s .kind f ≡ x → eqb FREE (kind-number x) ≡ false → eqb TABLE (kind-number x) ≡ false → (i : ℕ) → s′ .word f i ≡ s .word f i
   pub above : (x g′ n p j : ℕ) → h < n → s .kind x ≡ table g′ n p → s′ .word x j ≡ s .word x j
   -- the way to v ends at u, and everything comes to what it came to
   pub way : descend s′ h t v ≡ some u
@@ -176,16 +176,16 @@ module _ (s : State) (c : Core s) (t i t′ g h p q : ℕ) (ht : s .kind t ≡ t
     moves = λ g′ n x v′ a. e .moves g′ n x v′ (kept1 x (table g′ n (upper (suc n) v′)) a refl) ∙ linked-moves g′ n x v′ a;
   }
     where
-      kept1 : (f : ℕ) (x : Frame-kind) → s .kind f ≡ x → eqb 1 (sort x) ≡ false → s1 .kind f ≡ x
+      kept1 : (f : ℕ) (x : Frame-kind) → s .kind f ≡ x → eqb FREE (kind-number x) ≡ false → s1 .kind f ≡ x
       kept1 f x a z = linked-keep s c t i t′ g h p q ht hi was hq hf f x a z
 
-      was-before : (f : ℕ) (x : Frame-kind) → s1 .kind f ≡ x → (s .kind f ≡ x) ⊎ ((s .kind f ≡ free) × (eqb 2 (sort x) ≡ true))
+      was-before : (f : ℕ) (x : Frame-kind) → s1 .kind f ≡ x → (s .kind f ≡ x) ⊎ ((s .kind f ≡ free) × (eqb TABLE (kind-number x) ≡ true))
       was-before f x a = elim (eq? f t′) [
-        | inl e ↦ inr (ap (s .kind) e ∙ hf, let b : table g h q ≡ x = sym kind-new ∙ ap (s1 .kind) (sym e) ∙ a in ap (λ (y : Frame-kind). eqb 2 (sort y)) (sym b))
+        | inl e ↦ inr (ap (s .kind) e ∙ hf, let b : table g h q ≡ x = sym kind-new ∙ ap (s1 .kind) (sym e) ∙ a in ap (λ (y : Frame-kind). eqb TABLE (kind-number y)) (sym b))
         | inr e ↦ inl (sym (kind-old f e) ∙ a)
       ]
 
-      notnew : (f : ℕ) (x : Frame-kind) → s .kind f ≡ x → eqb 1 (sort x) ≡ false → f ≡ t′ → ⊥
+      notnew : (f : ℕ) (x : Frame-kind) → s .kind f ≡ x → eqb FREE (kind-number x) ≡ false → f ≡ t′ → ⊥
       notnew f x a z e = clash {x = free} {y = x} (sym hf ∙ ap (s .kind) (sym e) ∙ a) z
 
 module _ (k : Caches) where

@@ -15,7 +15,7 @@ use Rattle.model.specs.Entry.{Entry, entry}
 use Rattle.model.specs.Operations.{Out, refuse, done, check, at-first, started, set-up}
 use Rattle.model.specs.Cache.{Caches, nothing-kept, Access, writing, grants, Reach}
 use Rattle.model.specs.Machine.{Machine, Operation, Create, Give, Take, Map, Unmap, Share, Unshare, Destroy, Invalidated, answer, Chooses, keeps, settle, call, stored, write, Step, calls, stores, Run, stop, then, SetUp}
-use Rattle.model.specs.State.{sort}
+use Rattle.model.specs.State.{kind-number, FREE, MONITOR}
 use Rattle.model.proofs.Invariant.Kinds.{clash}
 use Rattle.model.specs.Invariant.{May, hit, places, Core, Kept}
 use Rattle.model.proofs.Invariant.Answer.{Then, then-done, Good}
@@ -38,7 +38,7 @@ answer-good s c k q (Create g pick) ch = create-good s c k q g pick ch
 answer-good s c k q (Give f g) ch = give-good s c k q f g
 answer-good s c k q (Take f g) ch = take-good s c k q f g
 answer-good s c k q (Map f g a r pick) ch = map-good s c k q f g a r pick ch
-answer-good s c k q (Unmap g a) ch = unmap-good s c k q g a
+answer-good s c k q (Unmap a g) ch = unmap-good s c k q g a
 answer-good s c k q (Share g f h w) ch = share-good s c k q g f h w
 answer-good s c k q (Unshare g f h) ch = unshare-good s c k q g f h
 answer-good s c k q (Destroy g) ch = destroy-good s c k q g
@@ -102,7 +102,7 @@ module _ (P : State → Type 0) (answered : Answers-keep P) (written : Stores-ke
 
 -- set-up: nobody is there
 module _ (n k : ℕ) where
-  pub neither : (f : ℕ) (x : Frame-kind) → at-first n k f ≡ x → eqb 0 (sort x) ≡ false → eqb 1 (sort x) ≡ false → ⊥
+  pub neither : (f : ℕ) (x : Frame-kind) → at-first n k f ≡ x → eqb MONITOR (kind-number x) ≡ false → eqb FREE (kind-number x) ≡ false → ⊥
   unfolding at-first
   neither f x e a b = go (ltb f k || leb n f) refl
     where
@@ -126,7 +126,7 @@ module _ (n k : ℕ) where
       go true = refl
       go false = refl
 
-  pub started-core : (b : ℕ) (w : ℕ → ℕ → ℕ) → b / 4096 + n ≤ page-count → Core (started n b k w)
+  pub started-core : (b : ℕ) (w : ℕ → ℕ → ℕ) → b / 4096 + n ≤ page-count → Core (started b n k w)
   unfolding started places
   started-core b w l = record {
     room = l;
@@ -144,22 +144,22 @@ module _ (n k : ℕ) where
 pub nothing-ok : (s : State) → Kept s nothing-kept
 nothing-ok s = record { table-ok = λ g h p x a. absurd a; page-ok = λ g v x r a. absurd a; table-now = λ g h p x d a. absurd a; page-now = λ g v x r d a. absurd a }
 
-fits-room : (fits : Bool) (n b k : ℕ) → (fits && ram-fits b n && ltb k n) ≡ true → b / frame-bytes + n ≤ page-count
-fits-room fits n b k e =
+fits-room : (fits : Bool) (b n k : ℕ) → (fits && ram-fits b n && ltb k n) ≡ true → b / frame-bytes + n ≤ page-count
+fits-room fits b n k e =
     let both = and-true (fits && ram-fits b n) (ltb k n) e .0 in
     let low = fits-so b n (and-true fits (ram-fits b n) both .1) .low in
     omega arith
 
-pub set-up-core : (fits : Bool) (n b k : ℕ) (w : ℕ → ℕ → ℕ) (s : State) → set-up fits n b k w ≡ done s → Core s
+pub set-up-core : (fits : Bool) (b n k : ℕ) (w : ℕ → ℕ → ℕ) (s : State) → set-up fits b n k w ≡ done s → Core s
 unfolding set-up check
-set-up-core fits n b k w s e = go (fits && ram-fits b n && ltb k n) refl e
+set-up-core fits b n k w s e = go (fits && ram-fits b n && ltb k n) refl e
   where
-    go : (t : Bool) → (fits && ram-fits b n && ltb k n) ≡ t → check t 4 (done (started n b k w)) ≡ done s → Core s
-    go true q e = let z : started n b k w ≡ s = cc in rw z at (started-core n k b w (fits-room fits n b k q))
+    go : (t : Bool) → (fits && ram-fits b n && ltb k n) ≡ t → check t 4 (done (started b n k w)) ≡ done s → Core s
+    go true q e = let z : started b n k w ≡ s = cc in rw z at (started-core n k b w (fits-room fits b n k q))
     go false q e = let z : _≡_ {A = ℕ} 0 1 = cc in absurd (omega arith)
 
 pub set-up-holds : {m : Machine} → SetUp m → Holds m
-set-up-holds {m} x = record { core = set-up-core true (x .n) (x .b) (x .k) (x .word) (m .state) (x .accepted); kept = rw (x .fresh) (nothing-ok (m .state)) }
+set-up-holds {m} x = record { core = set-up-core true (x .b) (x .n) (x .k) (x .word) (m .state) (x .accepted); kept = rw (x .fresh) (nothing-ok (m .state)) }
 
 -- after any run from set-up
 pub holds : {m z : Machine} → SetUp m → Run m z → Holds z

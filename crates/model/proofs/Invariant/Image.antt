@@ -34,17 +34,17 @@ module _ {s : State} {b : ℕ} {m : List ℕ} (x : Image s b m) (h : (i : ℕ) �
       ∙ bytes-there m h 7 (4096 * f + 8 * (o / 8)) (o % 8) (omega arith) ∙ ap (λ (i : ℕ). getD m i 0) at
 
 -- set-up on any bytes
-module _ (n b k : ℕ) (m : List ℕ) (long : length m ≡ 4096 * n) where
-  started-image : b % 4096 ≡ 0 → Image (started n b k (λ f i. word-at m (4096 * f + 8 * i))) b m
+module _ (b n k : ℕ) (m : List ℕ) (long : length m ≡ 4096 * n) where
+  started-image : b % 4096 ≡ 0 → Image (started b n k (λ f i. word-at m (4096 * f + 8 * i))) b m
   unfolding started
   started-image whole = record { base = omega arith; long = long; words = λ f i l j. refl }
 
-  accepted : Then (λ s. Image s b m) (set-up true n b k (λ f i. word-at m (4096 * f + 8 * i)))
+  accepted : Then (λ s. Image s b m) (set-up true b n k (λ f i. word-at m (4096 * f + 8 * i)))
   unfolding set-up
   accepted = checked 4 λ q. then-done (started-image (fits-so b n (and-true (ram-fits b n) (ltb k n) q .0) .aligned))
 
-  pub set-up-image : (s : State) → set-up true n b k (λ f i. word-at m (4096 * f + 8 * i)) ≡ done s → Image s b m
-  set-up-image s e = then-is (set-up true n b k (λ f i. word-at m (4096 * f + 8 * i))) s accepted e
+  pub set-up-image : (s : State) → set-up true b n k (λ f i. word-at m (4096 * f + 8 * i)) ≡ done s → Image s b m
+  set-up-image s e = then-is (set-up true b n k (λ f i. word-at m (4096 * f + 8 * i))) s accepted e
 
 -- the bytes of a state: numbers f a, f (a + 1), .. in a list
 unfoldable pub numbers-from : (f : ℕ → ℕ) (a n : ℕ) → List ℕ

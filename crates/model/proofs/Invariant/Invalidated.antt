@@ -13,7 +13,7 @@ use Rattle.model.specs.Translate.{entry-at}
 use Rattle.model.specs.Changes.{released, clean}
 use Rattle.model.specs.Operations.{invalidated}
 use Rattle.model.specs.Cache.{Caches, forget}
-use Rattle.model.specs.State.{sort}
+use Rattle.model.specs.State.{kind-number, FREE}
 use Rattle.model.proofs.Invariant.Kinds.{clash}
 use Rattle.model.specs.Invariant.{May, Core, Kept, hit}
 use Rattle.model.proofs.Invariant.Core.{fits-keep, stale-keep}
@@ -31,7 +31,7 @@ module _ (g : ℕ) where
   stays-or-free (page h) = inl refl
   stays-or-free (draining-page h) = elim (bool? (eqb h g)) [ inl e ↦ inr (rw e) | inr e ↦ inl (rw e) ]
 
-  pub released-from : (x z : Frame-kind) → released g x ≡ z → eqb 1 (sort z) ≡ false → x ≡ z
+  pub released-from : (x z : Frame-kind) → released g x ≡ z → eqb FREE (kind-number z) ≡ false → x ≡ z
   released-from x z e q = elim (stays-or-free x) [ inl a ↦ sym a ∙ e | inr a ↦ absurd (clash {x = free} {y = z} (sym a ∙ e) q) ]
 
   not-mine : (x : Frame-kind) (h n p : ℕ) → released g x ≡ draining-table h n p → h ≡ g → ⊥

@@ -17,7 +17,7 @@ use Rattle.model.specs.Changes.{Choice, zeros, becomes, with-root, with-
 use Rattle.model.specs.Operations.{done, create, give, map, unmap, share, unshare, take, destroy, invalidated}
 use Rattle.model.specs.Cache.{nothing-kept}
 use Rattle.model.specs.Machine.{Operation, Create, Give, Take, Map, Unmap, Share, Unshare, Destroy, Invalidated, answer, Chooses, stored}
-use Rattle.model.specs.State.{sort}
+use Rattle.model.specs.State.{kind-number, FREE, TABLE}
 use Rattle.model.proofs.Invariant.Kinds.{clash, kind-keep, kind-from, free-is, page-of-is}
 use Rattle.model.specs.Invariant.{Core}
 use Rattle.model.proofs.Invariant.Way.{root-serves, leaf-kind, translate-from}
@@ -59,7 +59,7 @@ module _ (s : State) (l : Linked s) where
       ∙ ap (λ (w : ℕ → ℕ → ℕ). entry (s .first) (w u j)) e4
       ∙ ap (entry (s .first)) (upd2-other (s .word) t i x u j (λ (e : u ≡ t) z. let o : 0 ≡ suc h = cc in omega arith)) ∙ b)
 
-  becomes-linked : (f : ℕ) (x y : Frame-kind) (w sh : ℕ → ℕ → ℕ) → s .kind f ≡ x → eqb (sort x) 2 ≡ false → eqb (sort y) 2 ≡ false → ((t : ℕ) → (t ≡ f → ⊥) → (i : ℕ) → w t i ≡ s .word t i) → Linked (becomes s f y w sh)
+  becomes-linked : (f : ℕ) (x y : Frame-kind) (w sh : ℕ → ℕ → ℕ) → s .kind f ≡ x → eqb (kind-number x) TABLE ≡ false → eqb (kind-number y) TABLE ≡ false → ((t : ℕ) → (t ≡ f → ⊥) → (i : ℕ) → w t i ≡ s .word t i) → Linked (becomes s f y w sh)
   unfolding becomes
   becomes-linked f x y w sh hf x2 y2 hw = linked-same s (becomes s f y w sh) l
       (λ t g h p k. (kind-from (s .kind) f y t (table g h p) k y2, refl, λ u n q a. kind-keep (s .kind) f x y hf u (table g n q) a x2))
@@ -134,7 +134,7 @@ module _ (s : State) (l : Linked s) where
       same-root : (g′ : ℕ) → with-table s t i t′ g h q .root g′ ≡ s .root g′
       same-root g′ = unfold with-table in refl
 
-      keep : (u : ℕ) (x : Frame-kind) → s .kind u ≡ x → eqb 1 (sort x) ≡ false → with-table s t i t′ g h q .kind u ≡ x
+      keep : (u : ℕ) (x : Frame-kind) → s .kind u ≡ x → eqb FREE (kind-number x) ≡ false → with-table s t i t′ g h q .kind u ≡ x
       keep u x a k = unfold with-table in kind-keep (s .kind) t′ free (table g h q) hf u x a k
 
       first= : with-table s t i t′ g h q .first ≡ s .first
@@ -165,7 +165,7 @@ map-linked s c l f g a r pick ch =
     x : Grown
     x = grow 3 s g (s .root g) (a / 4096) pick
 
-unmap-linked : (s : State) (c : Core s) (l : Linked s) (g a : ℕ) → Then Linked (unmap s g a)
+unmap-linked : (s : State) (c : Core s) (l : Linked s) (g a : ℕ) → Then Linked (unmap s a g)
 unfolding unmap without-page
 unmap-linked s c l g a =
     checked 5 λ e1. checked 7 λ e2. checked 11 λ e3.
@@ -190,7 +190,7 @@ answer-linked s c l (Give f g) ch = checked 5 λ e1. checked 4 λ e2. checked 6 
     then-done (becomes-linked s l f free (page g) (upd (s .word) f zeros) (upd (s .shared) f zeros) (free-is (s .kind f) e3) refl refl (λ t ne i. rw (upd-other (s .word) f zeros t ne)))
 answer-linked s c l (Take f g) ch = take-linked s l f g
 answer-linked s c l (Map f g a r pick) ch = map-linked s c l f g a r pick ch
-answer-linked s c l (Unmap g a) ch = unmap-linked s c l g a
+answer-linked s c l (Unmap a g) ch = unmap-linked s c l g a
 answer-linked s c l (Share g f h w) ch = checked 5 λ e1. checked 12 λ e2. checked 4 λ e3. checked 9 λ e4. checked 13 λ e5. checked 14 λ e6.
     then-done (becomes-linked s l f (page g) (page g) (s .word) (upd2 (s .shared) f h (cond (eqb w 0) 1 2)) (page-of-is (s .kind f) g e4) refl refl (λ t ne i. refl))
 answer-linked s c l (Unshare g f h) ch = checked 5 λ e1. checked 4 λ e2. checked 9 λ e3. checked 13 λ e4. checked 14 λ e5.

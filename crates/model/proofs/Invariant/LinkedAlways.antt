@@ -25,16 +25,16 @@ use Rattle.model.proofs.Invariant.Holds.{Stores-keep, run-keeps, set-up
 use Rattle.model.proofs.Invariant.Allowed.{frame-allowed, not-allowed}
 use Rattle.model.proofs.Invariant.Linked.{Linked, answer-linked, stored-linked, comes-there}
 
-pub set-up-linked : (fits : Bool) (n b k : ℕ) (w : ℕ → ℕ → ℕ) (s : State) → set-up fits n b k w ≡ done s → Linked s
+pub set-up-linked : (fits : Bool) (b n k : ℕ) (w : ℕ → ℕ → ℕ) (s : State) → set-up fits b n k w ≡ done s → Linked s
 unfolding set-up check started
-set-up-linked fits n b k w s e = go (fits && ram-fits b n && ltb k n) e
+set-up-linked fits b n k w s e = go (fits && ram-fits b n && ltb k n) e
   where
-    go : (t : Bool) → check t 4 (done (started n b k w)) ≡ done s → Linked s
-    go true e = let z : started n b k w ≡ s = cc in let y : Linked (started n b k w) = record { hangs = λ t g h p a. absurd (neither n k t (table g h p) a refl refl) } in rw z at y
+    go : (t : Bool) → check t 4 (done (started b n k w)) ≡ done s → Linked s
+    go true e = let z : started b n k w ≡ s = cc in let y : Linked (started b n k w) = record { hangs = λ t g h p a. absurd (neither n k t (table g h p) a refl refl) } in rw z at y
     go false e = let z : _≡_ {A = ℕ} 0 1 = cc in absurd (omega arith)
 
 pub linked-always : {m z : Machine} → SetUp m → Run m z → Linked (z .state)
-linked-always {m} x r = run-keeps Linked answer-linked written r (set-up-holds x) (set-up-linked true (x .n) (x .b) (x .k) (x .word) (m .state) (x .accepted))
+linked-always {m} x r = run-keeps Linked answer-linked written r (set-up-holds x) (set-up-linked true (x .b) (x .n) (x .k) (x .word) (m .state) (x .accepted))
   where
     written : Stores-keep Linked
     written m h l g f o x n b a = stored-linked (m .state) l f o x (λ g′ h′ p k. not-allowed (m .state) g f writing (table g′ h′ p) k refl refl (frame-allowed h g writing ((m .state .first + f) * 4096 + o) f (omega arith) a))

@@ -93,7 +93,7 @@ module _ (s : State) (c : Core s) where
   unfolding without-mapping
   without-is g v t f r a b = rw (a, b)
 
-  pub unmap-good : (k : Caches) (q : Kept s k) (g a : ℕ) → Good k (unmap s g a)
+  pub unmap-good : (k : Caches) (q : Kept s k) (g a : ℕ) → Good k (unmap s a g)
   unfolding unmap
   unmap-good k q g a =
       checked 5 λ e1. checked 7 λ e2. checked 11 λ e3.

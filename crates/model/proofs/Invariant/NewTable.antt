@@ -14,7 +14,7 @@ use Rattle.model.proofs.Laws.Entry.{entry-empty, entry-table}
 use Rattle.model.specs.Translate.{entry-at}
 use Rattle.model.specs.Changes.{zeros, with-table}
 use Rattle.model.specs.Cache.{Caches}
-use Rattle.model.specs.State.{sort}
+use Rattle.model.specs.State.{kind-number, FREE, TABLE}
 use Rattle.model.proofs.Invariant.Kinds.{clash, kind-keep, kind-from}
 use Rattle.model.specs.Invariant.{May, Fits, Core, Kept}
 use Rattle.model.proofs.Invariant.Core.{fits-keep, stale-keep, in-room}
@@ -54,17 +54,17 @@ module _ (s : State) (c : Core s) (t i t′ g h p q : ℕ) (ht : s .kind t ≡ t
   unfolding s′
   old u e j d = ap (entry (s .first)) (linked-old u e j d)
 
-  pub not-new : (u : ℕ) (x : Frame-kind) → s .kind u ≡ x → eqb 1 (sort x) ≡ false → u ≡ t′ → ⊥
+  pub not-new : (u : ℕ) (x : Frame-kind) → s .kind u ≡ x → eqb FREE (kind-number x) ≡ false → u ≡ t′ → ⊥
   not-new u x a k e = clash {x = free} {y = x} (sym hf ∙ ap (s .kind) (sym e) ∙ a) k
 
-  pub linked-keep : (u : ℕ) (x : Frame-kind) → s .kind u ≡ x → eqb 1 (sort x) ≡ false → with-table s t i t′ g h q .kind u ≡ x
+  pub linked-keep : (u : ℕ) (x : Frame-kind) → s .kind u ≡ x → eqb FREE (kind-number x) ≡ false → with-table s t i t′ g h q .kind u ≡ x
   unfolding with-table
   linked-keep u x a k = kind-keep (s .kind) t′ free (table g h q) hf u x a k
 
-  keep : (u : ℕ) (x : Frame-kind) → s .kind u ≡ x → eqb 1 (sort x) ≡ false → upd (s .kind) t′ (table g h q) u ≡ x
+  keep : (u : ℕ) (x : Frame-kind) → s .kind u ≡ x → eqb FREE (kind-number x) ≡ false → upd (s .kind) t′ (table g h q) u ≡ x
   keep u x a k = kind-keep (s .kind) t′ free (table g h q) hf u x a k
 
-  from : (u : ℕ) (x : Frame-kind) → upd (s .kind) t′ (table g h q) u ≡ x → eqb 2 (sort x) ≡ false → s .kind u ≡ x
+  from : (u : ℕ) (x : Frame-kind) → upd (s .kind) t′ (table g h q) u ≡ x → eqb TABLE (kind-number x) ≡ false → s .kind u ≡ x
   from u x a k = kind-from (s .kind) t′ (table g h q) u x a k
 
   pub linked-may : (g′ f r : ℕ) → May s g′ f r → May (with-table s t i t′ g h q) g′ f r

@@ -29,28 +29,28 @@ run-same {m} r h = run-keeps (Same-place (m .state)) answered written r h (recor
     written m h p g f o x n b a = unfold stored in record { first = p .first; size = p .size }
 
 -- RAM is one that document 01, section 1 describes
-pub record Place (n b : ℕ) (s : State) : Type 0 where
+pub record Place (b n : ℕ) (s : State) : Type 0 where
   pub ram : Ram-fits b n
   pub base : b ≡ frame-bytes * s .first
   pub size : s .size ≡ n
 
-module _ (n b k : ℕ) (w : ℕ → ℕ → ℕ) where
-  started-place : (true && ram-fits b n && ltb k n) ≡ true → Place n b (started n b k w)
+module _ (b n k : ℕ) (w : ℕ → ℕ → ℕ) where
+  started-place : (true && ram-fits b n && ltb k n) ≡ true → Place b n (started b n k w)
   unfolding started
   started-place q =
       let ram = fits-so b n (and-true (ram-fits b n) (ltb k n) q .0) in
       let whole = ram .aligned in
       record { ram = ram; base = omega arith; size = refl }
 
-  set-up-place : (s : State) → set-up true n b k w ≡ done s → Place n b s
-  set-up-place s e = then-is (set-up true n b k w) s accepted e
+  set-up-place : (s : State) → set-up true b n k w ≡ done s → Place b n s
+  set-up-place s e = then-is (set-up true b n k w) s accepted e
     where
-      accepted : Then (Place n b) (set-up true n b k w)
+      accepted : Then (Place b n) (set-up true b n k w)
       accepted = unfold set-up in checked 4 λ q. then-done (started-place q)
 
-pub placed : {m z : Machine} (x : SetUp m) → Run m z → Place (x .n) (x .b) (z .state)
+pub placed : {m z : Machine} (x : SetUp m) → Run m z → Place (x .b) (x .n) (z .state)
 placed {m} {z} x r =
-    let a = set-up-place (x .n) (x .b) (x .k) (x .word) (m .state) (x .accepted) in
+    let a = set-up-place (x .b) (x .n) (x .k) (x .word) (m .state) (x .accepted) in
     let b = run-same r (set-up-holds x) in
     record { ram = a .ram; base = a .base ∙ ap (λ (u : ℕ). frame-bytes * u) (sym (b .first)); size = b .size ∙ a .size }
 

@@ -16,7 +16,7 @@ use Rattle.model.specs.Changes.{Choice, zeros, becomes, with-root, Grown
 use Rattle.model.specs.Operations.{done, create, give, map, unmap, share, unshare, take, destroy, invalidated}
 use Rattle.model.specs.Cache.{Caches, nothing-kept}
 use Rattle.model.specs.Machine.{Operation, Create, Give, Take, Map, Unmap, Share, Unshare, Destroy, Invalidated, answer, Chooses}
-use Rattle.model.specs.State.{sort}
+use Rattle.model.specs.State.{kind-number, DRAINING-PAGE, DRAINING-TABLE, FREE, TABLE}
 use Rattle.model.proofs.Invariant.Kinds.{clash, kind-from, free-is, page-of-is}
 use Rattle.model.specs.Invariant.{May, Core}
 use Rattle.model.proofs.Invariant.Way.{leaf-kind, translate-from}
@@ -37,7 +37,7 @@ pub record Fresh (s s′ : State) (f : ℕ) : Type 0 where
 pub record Orderly (s s′ : State) : Type 0 where
   pub first : s′ .first ≡ s .first
   pub size : s′ .size ≡ s .size
-  pub words : (f : ℕ) (x : Frame-kind) → s .kind f ≡ x → eqb 1 (sort x) ≡ false → eqb 2 (sort x) ≡ false → (i : ℕ) → s′ .word f i ≡ s .word f i
+  pub words : (f : ℕ) (x : Frame-kind) → s .kind f ≡ x → eqb FREE (kind-number x) ≡ false → eqb TABLE (kind-number x) ≡ false → (i : ℕ) → s′ .word f i ≡ s .word f i
   pub pages-from : (f g : ℕ) → s′ .kind f ≡ page g → (s .kind f ≡ page g) ⊎ Fresh s s′ f
   pub tables-from : (f g h p : ℕ) → s′ .kind f ≡ table g h p → (s .kind f ≡ table g h p) ⊎ (s .kind f ≡ free)
 
@@ -47,7 +47,7 @@ free-unled s f f′ hf e g r (inr a) = clash {x = free} {y = page (a .0)} (sym h
 
 module _ (s : State) where
   -- take, share, unshare
-  becomes-orderly : (f : ℕ) (y : Frame-kind) (sh : ℕ → ℕ → ℕ) → ((g : ℕ) → y ≡ page g → s .kind f ≡ page g) → eqb (sort y) 2 ≡ false → Orderly s (becomes s f y (s .word) sh)
+  becomes-orderly : (f : ℕ) (y : Frame-kind) (sh : ℕ → ℕ → ℕ) → ((g : ℕ) → y ≡ page g → s .kind f ≡ page g) → eqb (kind-number y) TABLE ≡ false → Orderly s (becomes s f y (s .word) sh)
   unfolding becomes
   becomes-orderly f y sh own y2 = record {
     first = refl;
@@ -123,7 +123,7 @@ module _ (s : State) where
     tables-from = λ f g′ h p a. inl (before f (table g′ h p) a refl refl (was g (s .kind f)));
   }
     where
-      before : (f : ℕ) (x : Frame-kind) → drained g (s .kind f) ≡ x → eqb 3 (sort x) ≡ false → eqb 5 (sort x) ≡ false → Was g (s .kind f) → s .kind f ≡ x
+      before : (f : ℕ) (x : Frame-kind) → drained g (s .kind f) ≡ x → eqb DRAINING-TABLE (kind-number x) ≡ false → eqb DRAINING-PAGE (kind-number x) ≡ false → Was g (s .kind f) → s .kind f ≡ x
       before f x a y3 y5 (stays b c d) = sym b ∙ a
       before f x a y3 y5 (was-table n p b d) = absurd (clash {x = draining-table g n p} {y = x} (sym d ∙ a) y3)
       before f x a y3 y5 (was-page b d) = absurd (clash {x = draining-page g} {y = x} (sym d ∙ a) y5)
@@ -148,7 +148,7 @@ map-orderly s c f g a r pick ch =
     x : Grown
     x = grow 3 s g (s .root g) (a / 4096) pick
 
-unmap-orderly : (s : State) (c : Core s) (g a : ℕ) → Then (Orderly s) (unmap s g a)
+unmap-orderly : (s : State) (c : Core s) (g a : ℕ) → Then (Orderly s) (unmap s a g)
 unfolding unmap without-page
 unmap-orderly s c g a =
     checked 5 λ e1. checked 7 λ e2. checked 11 λ e3.
@@ -181,7 +181,7 @@ orderly s c (Create g pick) ch = checked 1 λ e1. checked 2 λ e2. checked 3 λ 
 orderly s c (Give f g) ch = checked 5 λ e1. checked 4 λ e2. checked 6 λ e3. then-done (given-orderly s c f g (upd (s .shared) f zeros) (free-is (s .kind f) e3))
 orderly s c (Take f g) ch = take-orderly s f g
 orderly s c (Map f g a r pick) ch = map-orderly s c f g a r pick ch
-orderly s c (Unmap g a) ch = unmap-orderly s c g a
+orderly s c (Unmap a g) ch = unmap-orderly s c g a
 orderly s c (Share g f h w) ch = share-orderly s g f h w
 orderly s c (Unshare g f h) ch = unshare-orderly s g f h
 orderly s c (Destroy g) ch = checked 5 λ e1. checked 13 λ e2. then-done (destroyed-orderly s g)

@@ -33,7 +33,7 @@ asked-then (ask o s′ p ch e x) y = ask o s′ p ch e (asked-then x y)
 
 -- what is answered 0
 module _ (s : State) (c : Core s) where
-  unmap-granted : (h v t f r : ℕ) → v < page-count → s .exists h ≡ true → leaf s h v ≡ some t → translate s h v ≡ some (f, r) → answer s (Unmap h (v * 4096)) ≡ done (without-page s t (v % 512) f h)
+  unmap-granted : (h v t f r : ℕ) → v < page-count → s .exists h ≡ true → leaf s h v ≡ some t → translate s h v ≡ some (f, r) → answer s (Unmap (v * 4096) h) ≡ done (without-page s t (v % 512) f h)
   unfolding answer unmap check
   unmap-granted h v t f r l e a b =
       let m : v * 4096 % 4096 ≡ 0 = omega arith in
@@ -71,7 +71,7 @@ module _ (f g : ℕ) where
       let v = a .0 in
       let s1 = without-page s (a .2) (v % 512) f h in
       let g1 = unmap-granted s c h v (a .2) f (a .1) (a .3) (a .4) (a .5) (a .6) in
-      let b = unmap-all n s1 (then-is (answer s (Unmap h (v * 4096))) s1 (answer-core s c (Unmap h (v * 4096)) tt) g1) (then-is (answer s (Unmap h (v * 4096))) s1 (answer-linked s c l (Unmap h (v * 4096)) tt) g1) h
+      let b = unmap-all n s1 (then-is (answer s (Unmap (v * 4096) h)) s1 (answer-core s c (Unmap (v * 4096) h) tt) g1) (then-is (answer s (Unmap (v * 4096) h)) s1 (answer-linked s c l (Unmap (v * 4096) h) tt) g1) h
       (one-less s (a .2) (v % 512) h n e) in
       (b .0, more v (a .1) (a .2) (a .6) g1 (b .0) (b .1))
     where
@@ -81,11 +81,11 @@ module _ (f g : ℕ) where
       back : (v r : ℕ) (s : State) (h : ℕ) → translate s h v ≡ some (f, r) → translate s h (v * 4096 / 4096) ≡ some (f, r)
       back v r s h e = let d : v * 4096 / 4096 ≡ v = omega arith in rw d e
 
-      more : (v r t : ℕ) → translate s h v ≡ some (f, r) → answer s (Unmap h (v * 4096)) ≡ done (without-page s t (v % 512) f h) → (s′ : State) → Unmapped (without-page s t (v % 512) f h) h s′ → Unmapped s h s′
+      more : (v r t : ℕ) → translate s h v ≡ some (f, r) → answer s (Unmap (v * 4096) h) ≡ done (without-page s t (v % 512) f h) → (s′ : State) → Unmapped (without-page s t (v % 512) f h) h s′ → Unmapped s h s′
       more v r t e g1 s′ u = record {
         core = u .core;
         linked = u .linked;
-        asked = ask (Unmap h (v * 4096)) (without-page s t (v % 512) f h) (r, back v r s h e) tt g1 (u .asked);
+        asked = ask (Unmap (v * 4096) h) (without-page s t (v % 512) f h) (r, back v r s h e) tt g1 (u .asked);
         kind = u .kind ∙ (unfold without-page in refl);
         shared = λ h′. u .shared h′ ∙ (unfold without-page in refl);
         none = u .none;

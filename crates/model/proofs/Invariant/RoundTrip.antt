@@ -84,12 +84,12 @@ module _ (s : State) (c : Core s) where
         record { core = core; aligned = at .0; low = at .1; there = is-there s′ core g (a / 4096) (way .0) (way .1); page = now-mapped }
 
   -- unmap: nothing is there, and "tables that become empty stay where they are"
-  module _ (g a : ℕ) (s′ : State) (e : unmap s g a ≡ done s′) where
-    unmap-address : Then (λ s′. page-address a ≡ true) (unmap s g a)
+  module _ (g a : ℕ) (s′ : State) (e : unmap s a g ≡ done s′) where
+    unmap-address : Then (λ s′. page-address a ≡ true) (unmap s a g)
     unfolding unmap
     unmap-address = checked 5 λ e1. checked 7 λ e2. checked 11 λ e3. then-done e2
 
-    leaf-stays : Then (λ s′. (t : ℕ) × (leaf s′ g (a / 4096) ≡ some t)) (unmap s g a)
+    leaf-stays : Then (λ s′. (t : ℕ) × (leaf s′ g (a / 4096) ≡ some t)) (unmap s a g)
     unfolding unmap
     leaf-stays =
         checked 5 λ e1. checked 7 λ e2. checked 11 λ e3.
@@ -107,9 +107,9 @@ module _ (s : State) (c : Core s) where
 
     pub after-unmap : Asked-at g a none s′
     after-unmap =
-        let core = then-is (unmap s g a) s′ (unmap-good s c nothing-kept (nothing-ok s) g a) e .core in
-        let at = address-is a (then-is (unmap s g a) s′ unmap-address e) in
-        let way = then-is (unmap s g a) s′ leaf-stays e in
+        let core = then-is (unmap s a g) s′ (unmap-good s c nothing-kept (nothing-ok s) g a) e .core in
+        let at = address-is a (then-is (unmap s a g) s′ unmap-address e) in
+        let way = then-is (unmap s a g) s′ leaf-stays e in
         record { core = core; aligned = at .0; low = at .1; there = is-there s′ core g (a / 4096) (way .0) (way .1); page = unmapped-after s c g a s′ e }
 
 -- what document 01's walk then comes to, at offset k of the page

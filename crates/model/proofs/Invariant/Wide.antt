@@ -93,7 +93,7 @@ module _ (s : State) (c : Core s) (w : Wide (s .word)) where
       let z = grown-for s c nothing-kept (nothing-ok s) g v pick e1 (address-low a e3) ch enough in
       let tables : Wide (x .state .word) = grow-wide 3 s c g (s .root g) v pick ch enough (root-serves (s .kind (s .root g)) g v (c .roots g e1) (address-low a e3)) w in
       then-done (word-wide (x .state .word) tables (x .last) (v % 512) (page-entry (x .state .first) f r) (page-wide (x .state .first) f r (may-room (x .state) (z .core) g f r (z .may g f r (may-is s g f r e6)))))
-  answer-wide (Unmap g a) ch = checked 5 λ e1. checked 7 λ e2. checked 11 λ e3.
+  answer-wide (Unmap a g) ch = checked 5 λ e1. checked 7 λ e2. checked 11 λ e3.
       let o = some-is (translate s g (a / 4096)) e3 in
       let at = translate-from s g (a / 4096) (o .0) (o .1) (o .2) in
       rw (without-is s c g (a / 4096) (at .0) (o .0) (o .1) (at .1) (o .2)) (then-done (word-wide (s .word) w (at .0) (a / 4096 % 512) 0 (omega arith)))

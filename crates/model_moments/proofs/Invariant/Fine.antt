@@ -61,7 +61,7 @@ module _ (z : State) (c : Core z) (k : Caches) (q : Kept z k) where
   answer-finely (Create g pick) ch = unfold answer keeps stores-of in create-finely g pick ch
   answer-finely (Give f g) ch = unfold answer keeps stores-of in give-finely f g
   answer-finely (Map f g a r pick) ch = unfold answer keeps in then-more (map z f g a r pick) (λ s′ x. record { core = x .0; kept = x .1 }) (through-map z c k q Ends after-more at-end f g a r pick ch)
-  answer-finely (Unmap g a) ch = unfold answer keeps in then-more (unmap z g a) (λ s′ x. record { core = x .0; kept = x .1 }) (through-unmap z c k q Ends after-more at-end g a)
+  answer-finely (Unmap a g) ch = unfold answer keeps in then-more (unmap z a g) (λ s′ x. record { core = x .0; kept = x .1 }) (through-unmap z c k q Ends after-more at-end g a)
   answer-finely (Take f g) ch = unfold stores-of during in answer-good z c k q (Take f g) ch
   answer-finely (Share g f h w) ch = unfold stores-of during in answer-good z c k q (Share g f h w) ch
   answer-finely (Unshare g f h) ch = unfold stores-of during in answer-good z c k q (Unshare g f h) ch

@@ -94,7 +94,7 @@ module _ (z : State) (c : Core z) (k : Caches) (q : Kept z k) (G : State → Cac
       last : Store
       last = record { frame = x .last; index = v % 512; value = page-entry (z .first) f r }
 
-  pub through-unmap : (g a : ℕ) → Then (λ s′. Core s′ × G s′ k (z .word) (stores-of z (Unmap g a))) (unmap z g a)
+  pub through-unmap : (g a : ℕ) → Then (λ s′. Core s′ × G s′ k (z .word) (stores-of z (Unmap a g))) (unmap z a g)
   unfolding unmap stores-of
   through-unmap g a =
       checked 5 λ e1. checked 7 λ e2. checked 11 λ e3.
@@ -120,7 +120,7 @@ module _ (z : State) (c : Core z) (k : Caches) (q : Kept z k) where
   inside (Create g pick) ch = checked 1 λ e1. checked 2 λ e2. checked 3 λ e3. then-done (cleared (pick 0) (first-free z c pick ch (leb-true 1 (free-frames z) e3)))
   inside (Give f g) ch = checked 5 λ e1. checked 4 λ e2. checked 6 λ e3. then-done (cleared f (free-is (z .kind f) e3))
   inside (Map f g a r pick) ch = then-more (map z f g a r pick) (λ s′ x. x .1) (through-map z c k q Inside (λ s k w x rest a b. (a, b)) (λ s k w sh. safe z k w s sh) f g a r pick ch)
-  inside (Unmap g a) ch = then-more (unmap z g a) (λ s′ x. x .1) (through-unmap z c k q Inside (λ s k w x rest a b. (a, b)) (λ s k w sh. safe z k w s sh) g a)
+  inside (Unmap a g) ch = then-more (unmap z a g) (λ s′ x. x .1) (through-unmap z c k q Inside (λ s k w x rest a b. (a, b)) (λ s k w sh. safe z k w s sh) g a)
   inside (Take f g) ch = checked 5 λ e1. checked 4 λ e2. checked 9 λ e3. checked 13 λ e4. then-done (safe z k (z .word) z (not-begun z c k q))
   inside (Share g f h w) ch = checked 5 λ e1. checked 12 λ e2. checked 4 λ e3. checked 9 λ e4. checked 13 λ e5. checked 14 λ e6. then-done (safe z k (z .word) z (not-begun z c k q))
   inside (Unshare g f h) ch = checked 5 λ e1. checked 4 λ e2. checked 9 λ e3. checked 13 λ e4. checked 14 λ e5. then-done (safe z k (z .word) z (not-begun z c k q))

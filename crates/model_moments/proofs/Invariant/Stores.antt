@@ -15,7 +15,7 @@ use Rattle.model.specs.Translate.{upper, index, entry-at, missing-from}
 use Rattle.model.specs.Changes.{Choice, with-table, grow}
 use Rattle.model.specs.Cache.{Caches, kept, grown}
 use Rattle.model_moments.specs.Moments.{Store, clear-from, grow-stores, store, Safe}
-use Rattle.model.specs.State.{sort}
+use Rattle.model.specs.State.{kind-number, TABLE}
 use Rattle.model.proofs.Invariant.Kinds.{kind-from}
 use Rattle.model.specs.Invariant.{Core, Kept}
 use Rattle.model.proofs.Invariant.NewTable.{both?, linked-new, linked-old, linked-core, linked-kept}
@@ -85,7 +85,7 @@ module _ (z : State) where
       same-kind : (u : ℕ) → (u ≡ t′ → ⊥) → with-table s t i t′ g h q .kind u ≡ s .kind u
       same-kind u e = unfold with-table in upd-other (s .kind) t′ (table g h q) u e
 
-      from : (u : ℕ) (x : Frame-kind) → with-table s t i t′ g h q .kind u ≡ x → eqb 2 (sort x) ≡ false → s .kind u ≡ x
+      from : (u : ℕ) (x : Frame-kind) → with-table s t i t′ g h q .kind u ≡ x → eqb TABLE (kind-number x) ≡ false → s .kind u ≡ x
       from u x a e = unfold with-table in kind-from (s .kind) t′ (table g h q) u x a e
 
   -- one word of a last table is changed, to what the state after it has there

@@ -86,11 +86,11 @@ grow-end = grow-by Made (λ s c g t v pick a f i l. refl) (λ h s c g t v pick a
 abbrev Ends : State → Operation → State → Type 0
 Ends z o s′ = Same (after-stores (z .word) (stores-of z o)) (s′ .word)
 
-emptied : (z : State) (g a t f : ℕ) → leaf z g (a / 4096) ≡ some t → Ends z (Unmap g a) (without-page z t (a / 4096 % 512) f g)
+emptied : (z : State) (g a t f : ℕ) → leaf z g (a / 4096) ≡ some t → Ends z (Unmap a g) (without-page z t (a / 4096 % 512) f g)
 unfolding stores-of after-stores without-page
 emptied z g a t f e = rw e (λ f i l. refl)
 
-unmap-end : (z : State) (c : Core z) (g a : ℕ) → Then (Ends z (Unmap g a)) (unmap z g a)
+unmap-end : (z : State) (c : Core z) (g a : ℕ) → Then (Ends z (Unmap a g)) (unmap z a g)
 unfolding unmap
 unmap-end z c g a = checked 5 λ e1. checked 7 λ e2. checked 11 λ e3.
     let o = some-is (translate z g (a / 4096)) e3 in
@@ -119,7 +119,7 @@ unfolding answer stores-of after-stores create give take share unshare destroy i
 ends z c (Create g pick) ch = checked 1 λ e1. checked 2 λ e2. checked 3 λ e3. then-done (clear-same (pick 0) (z .word))
 ends z c (Give f g) ch = checked 5 λ e1. checked 4 λ e2. checked 6 λ e3. then-done (clear-same f (z .word))
 ends z c (Map f g a r pick) ch = map-end z c f g a r pick ch
-ends z c (Unmap g a) ch = unmap-end z c g a
+ends z c (Unmap a g) ch = unmap-end z c g a
 ends z c (Take f g) ch = checked 5 λ e1. checked 4 λ e2. checked 9 λ e3. checked 13 λ e4. then-done (λ f i l. refl)
 ends z c (Share g f h w) ch = checked 5 λ e1. checked 12 λ e2. checked 4 λ e3. checked 9 λ e4. checked 13 λ e5. checked 14 λ e6. then-done (λ f i l. refl)
 ends z c (Unshare g f h) ch = checked 5 λ e1. checked 4 λ e2. checked 9 λ e3. checked 13 λ e4. checked 14 λ e5. then-done (λ f i l. refl)

@@ -86,7 +86,7 @@ keeps-same k k′ (Create g pick) x = x
 keeps-same k k′ (Give f g) x = x
 keeps-same k k′ (Take f g) x = x
 keeps-same k k′ (Map f g a r pick) x = x
-keeps-same k k′ (Unmap g a) x = x
+keeps-same k k′ (Unmap a g) x = x
 keeps-same k k′ (Share g f h w) x = x
 keeps-same k k′ (Unshare g f h) x = x
 keeps-same k k′ (Destroy g) x = x
@@ -269,11 +269,11 @@ together-all stop p = p
 together-all (then x r) p = together-all r (together x p)
 
 -- right after set-up: nothing is shown, and nothing was kept
-pub started-is : (fits : Bool) (n b k : ℕ) (w : ℕ → ℕ → ℕ) (s : State) → set-up fits n b k w ≡ done s → s ≡ started n b k w
+pub started-is : (fits : Bool) (b n k : ℕ) (w : ℕ → ℕ → ℕ) (s : State) → set-up fits b n k w ≡ done s → s ≡ started b n k w
 unfolding set-up check
-started-is fits n b k w s e = go (fits && ram-fits b n && ltb k n) e
+started-is fits b n k w s e = go (fits && ram-fits b n && ltb k n) e
   where
-    go : (t : Bool) → check t 4 (done (started n b k w)) ≡ done s → s ≡ started n b k w
+    go : (t : Bool) → check t 4 (done (started b n k w)) ≡ done s → s ≡ started b n k w
     go true e = cc
     go false e = let z : _≡_ {A = ℕ} 0 1 = cc in absurd (omega arith)
 
@@ -281,9 +281,9 @@ pub started-kind : (n k f : ℕ) → (at-first n k f ≡ monitor) ⊎ (at-first 
 unfolding at-first
 started-kind n k f = elim (bool? (ltb f k || leb n f)) [ inl e ↦ inl (rw e) | inr e ↦ inr (rw e) ]
 
-started-echo : (g n b k : ℕ) (w w′ : ℕ → ℕ → ℕ) → Echo g (started n b k w) (started n b k w′)
+started-echo : (g b n k : ℕ) (w w′ : ℕ → ℕ → ℕ) → Echo g (started b n k w) (started b n k w′)
 unfolding started
-started-echo g n b k w w′ = (
+started-echo g b n k w w′ = (
   w′,
   refl,
   record {
@@ -308,7 +308,7 @@ nothing-found s e = record { tables = λ g h p x a. none g a; page-count = λ g 
     none-page g v (read-off h y t p a q l d o) = none g a
 
 pub set-up-closed : {m : Machine} → SetUp m → Closed (m .state) (m .caches)
-set-up-closed {m} x = rw (x .fresh) (nothing-found (m .state) (λ g. ap (λ (s : State). s .exists g) (started-is true (x .n) (x .b) (x .k) (x .word) (m .state) (x .accepted)) ∙ (unfold started in refl)))
+set-up-closed {m} x = rw (x .fresh) (nothing-found (m .state) (λ g. ap (λ (s : State). s .exists g) (started-is true (x .b) (x .n) (x .k) (x .word) (m .state) (x .accepted)) ∙ (unfold started in refl)))
 
 pub started-pair : (g : ℕ) {y z : Machine} → Same-start y z → Pair g y z
 started-pair g {y} {z} x = record {
@@ -319,14 +319,14 @@ started-pair g {y} {z} x = record {
   alike = record { state = echo; caches = same-caches (x .first .fresh) (x .second .fresh) };
 }
   where
-    same-numbers : (n n′ b b′ k k′ : ℕ) (w w′ : ℕ → ℕ → ℕ) → n ≡ n′ → b ≡ b′ → k ≡ k′ → Echo g (started n b k w) (started n′ b′ k′ w′)
-    same-numbers n n′ b b′ k k′ w w′ p q r = rw (p, q, r) (started-echo g n′ b′ k′ w w′)
+    same-numbers : (n n′ b b′ k k′ : ℕ) (w w′ : ℕ → ℕ → ℕ) → n ≡ n′ → b ≡ b′ → k ≡ k′ → Echo g (started b n k w) (started b′ n′ k′ w′)
+    same-numbers n n′ b b′ k k′ w w′ p q r = rw (p, q, r) (started-echo g b′ n′ k′ w w′)
 
     echo : Echo g (y .state) (z .state)
     echo =
         let a = x .first in
         let b = x .second in
-        rw (started-is true (a .n) (a .b) (a .k) (a .word) (y .state) (a .accepted), started-is true (b .n) (b .b) (b .k) (b .word) (z .state) (b .accepted))
+        rw (started-is true (a .b) (a .n) (a .k) (a .word) (y .state) (a .accepted), started-is true (b .b) (b .n) (b .k) (b .word) (z .state) (b .accepted))
         (same-numbers (a .n) (b .n) (a .b) (b .b) (a .k) (b .k) (a .word) (b .word) (x .same-n) (x .same-b) (x .same-k))
 
     nothing : Same-kept nothing-kept nothing-kept

@@ -14,7 +14,7 @@ use Rattle.model.specs.Changes.{Choice, zeros, becomes, with-root, Grown, grow,
 use Rattle.model.specs.Operations.{create, give, map, unmap, share, unshare, take, unshared, destroy, invalidated}
 use Rattle.model.specs.Cache.{nothing-kept}
 use Rattle.model.specs.Machine.{Operation, Create, Give, Take, Map, Unmap, Share, Unshare, Destroy, Invalidated, answer, Chooses}
-use Rattle.model.specs.State.{sort}
+use Rattle.model.specs.State.{kind-number, TABLE}
 use Rattle.model.proofs.Invariant.Kinds.{free-is, page-of-is}
 use Rattle.model.specs.Invariant.{Core}
 use Rattle.model.proofs.Invariant.Core.{low}
@@ -43,7 +43,7 @@ role-after g d (Create h pick) f k = k
 role-after g d (Give f′ h) f k = cond (eqb f f′ && eqb h g) 1 k
 role-after g d (Take f′ h) f k = cond (eqb f f′ && eqb h g) (cond d 3 0) k
 role-after g d (Map f′ h a r pick) f k = k
-role-after g d (Unmap h a) f k = k
+role-after g d (Unmap a h) f k = k
 role-after g d (Share o f′ h w) f k = cond (eqb f f′ && eqb h g) 2 k
 role-after g d (Unshare o f′ h) f k = cond (eqb f f′ && eqb h g) (cond (eqb k 2) 0 k) k
 role-after g d (Destroy h) f k = cond (eqb h g) (cond (eqb k 1) 3 k) k
@@ -54,7 +54,7 @@ dirty-after g (Create h pick) d = d
 dirty-after g (Give f h) d = d
 dirty-after g (Take f h) d = d
 dirty-after g (Map f h a r pick) d = d
-dirty-after g (Unmap h a) d = cond (eqb h g) true d
+dirty-after g (Unmap a h) d = cond (eqb h g) true d
 dirty-after g (Share o f h w) d = d
 dirty-after g (Unshare o f h) d = d
 dirty-after g (Destroy h) d = cond (eqb h g) true d
@@ -214,11 +214,11 @@ module _ (g : ℕ) (s : State) (c : Core s) where
   unfolding destroy without-guest unshared
   destroy-turns h = checked 5 λ e1. checked 13 λ e2.
       then-done (record {
-        roles = λ u. drained-role g h (s .kind u) (s .shared u g) (λ (a : s .kind u ≡ page h) ne. nobody u a (all-true (s .size) (unshared s h) e2 u (low s c u (page h) a refl)));
+        roles = λ u. drained-role g h (s .kind u) (s .shared u g) (λ (a : s .kind u ≡ page h) ne. nobody u a (all-true (s .size) (λ f. unshared s f h) e2 u (low s c u (page h) a refl)));
         dirty = upd-cond (s .dirty) h g true;
       })
     where
-      nobody : (u : ℕ) → s .kind u ≡ page h → unshared s h u ≡ true → s .shared u g ≡ 0
+      nobody : (u : ℕ) → s .kind u ≡ page h → unshared s u h ≡ true → s .shared u g ≡ 0
       nobody u a e = unfold unshared in
           let b = rw (a, eq-eqb h h refl) at e in
           with-nobody s c u h a (eqb-true (total (s .shared u)) 0 (and-true (eqb (s .shared u h) 0) (eqb (total (s .shared u)) 0) b .1)) g
@@ -240,7 +240,7 @@ module _ (g : ℕ) (s : State) (c : Core s) where
       x : Grown
       x = grow 3 s h (s .root h) (a / 4096) pick
 
-      a-table : (y : Frame-kind) (how : ℕ) → eqb 2 (sort y) ≡ true → role g y how ≡ 0
+      a-table : (y : Frame-kind) (how : ℕ) → eqb TABLE (kind-number y) ≡ true → role g y how ≡ 0
       a-table monitor how e = refl
       a-table free how e = refl
       a-table (table h n p) how e = refl
@@ -248,11 +248,11 @@ module _ (g : ℕ) (s : State) (c : Core s) where
       a-table (page h) how e = cc
       a-table (draining-page h) how e = cc
 
-      same : (u : ℕ) → (s .kind u ≡ x .state .kind u) ⊎ ((s .kind u ≡ free) × (eqb 2 (sort (x .state .kind u)) ≡ true)) → role g (x .state .kind u) (s .shared u g) ≡ role-of s g u
+      same : (u : ℕ) → (s .kind u ≡ x .state .kind u) ⊎ ((s .kind u ≡ free) × (eqb TABLE (kind-number (x .state .kind u)) ≡ true)) → role g (x .state .kind u) (s .shared u g) ≡ role-of s g u
       same u (inl e) = rw e
       same u (inr e) = a-table (x .state .kind u) (s .shared u g) (e .1) ∙ rw (e .0)
 
-  unmap-turns : (h a : ℕ) → Then (Turns g s (Unmap h a)) (unmap s h a)
+  unmap-turns : (h a : ℕ) → Then (Turns g s (Unmap a h)) (unmap s a h)
   unfolding unmap without-page
   unmap-turns h a =
       checked 5 λ e1. checked 7 λ e2. checked 11 λ e3.
@@ -267,7 +267,7 @@ module _ (g : ℕ) (s : State) (c : Core s) where
   answer-turns (Give f h) ch = give-turns f h
   answer-turns (Take f h) ch = take-turns f h
   answer-turns (Map f h a r pick) ch = map-turns f h a r pick ch
-  answer-turns (Unmap h a) ch = unmap-turns h a
+  answer-turns (Unmap a h) ch = unmap-turns h a
   answer-turns (Share o f h w) ch = share-turns o f h w
   answer-turns (Unshare o f h) ch = unshare-turns o f h
   answer-turns (Destroy h) ch = destroy-turns h

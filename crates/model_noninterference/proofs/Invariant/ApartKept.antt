@@ -15,7 +15,7 @@ use Rattle.model.specs.Changes.{Choice, zeros, becomes, with-root, with-page, w
 use Rattle.model.specs.Operations.{Out, refuse, done, create, give, map, unmap, share, unshare, take, destroy, invalidated}
 use Rattle.model.specs.Cache.{Caches, nothing-kept, Translation, kept}
 use Rattle.model.specs.Machine.{Machine, Operation, Create, Give, Take, Map, Unmap, Share, Unshare, Destroy, Invalidated, answer, Chooses, keeps, Run, SetUp}
-use Rattle.model.specs.State.{sort}
+use Rattle.model.specs.State.{kind-number, DRAINING-TABLE}
 use Rattle.model.proofs.Invariant.Kinds.{clash, kind-from}
 use Rattle.model.specs.Invariant.{Core, Kept}
 use Rattle.model.proofs.Invariant.Way.{translate-from}
@@ -49,7 +49,7 @@ module _ (g : ℕ) (s : State) (c : Core s) where
   abbrev Kinds-from : State → Type 0
   Kinds-from s′ = (t h p : ℕ) → s′ .kind t ≡ draining-table g h p → s .kind t ≡ draining-table g h p
 
-  becomes-from : (f : ℕ) (y : Frame-kind) (w sh : ℕ → ℕ → ℕ) → eqb (sort y) 3 ≡ false → Kinds-from (becomes s f y w sh)
+  becomes-from : (f : ℕ) (y : Frame-kind) (w sh : ℕ → ℕ → ℕ) → eqb (kind-number y) DRAINING-TABLE ≡ false → Kinds-from (becomes s f y w sh)
   unfolding becomes
   becomes-from f y w sh n t h p a = kind-from (s .kind) f y t (draining-table g h p) a n
 
@@ -67,7 +67,7 @@ module _ (g : ℕ) (s : State) (c : Core s) where
       no-bool : false ≡ true → ⊥
       no-bool e = let z : _≡_ {A = ℕ} 0 1 = cc in omega arith
 
-  unmap-from : (h a : ℕ) → Then Kinds-from (unmap s h a)
+  unmap-from : (h a : ℕ) → Then Kinds-from (unmap s a h)
   unfolding unmap without-page
   unmap-from h a =
       checked 5 λ e1. checked 7 λ e2. checked 11 λ e3.
@@ -132,7 +132,7 @@ module _ (g : ℕ) (s : State) (c : Core s) where
   answer-there (Give f h) ch = there (Give f h) ch (unfold answer in give-from f h) refl
   answer-there (Take f h) ch = there (Take f h) ch (unfold answer in take-from f h) refl
   answer-there (Map f h a r pick) ch = there (Map f h a r pick) ch (unfold answer in map-from f h a r pick ch) refl
-  answer-there (Unmap h a) ch = there (Unmap h a) ch (unfold answer in unmap-from h a) refl
+  answer-there (Unmap a h) ch = there (Unmap a h) ch (unfold answer in unmap-from h a) refl
   answer-there (Share o f h w) ch = there (Share o f h w) ch (unfold answer in share-from o f h w) refl
   answer-there (Unshare o f h) ch = there (Unshare o f h) ch (unfold answer in unshare-from o f h) refl
   answer-there (Destroy h) ch = unfold answer in destroy-there h

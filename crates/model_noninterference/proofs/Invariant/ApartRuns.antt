@@ -96,8 +96,8 @@ run-apart stop-apart p = p
 run-apart (then-apart x r) p = run-apart r (step-apart x p)
 
 -- right after set-up: g has nothing
-nothing-yet : {m : Machine} (x : SetUp m) → m .state ≡ started (x .n) (x .b) (x .k) (x .word)
-nothing-yet {m} x = started-is true (x .n) (x .b) (x .k) (x .word) (m .state) (x .accepted)
+nothing-yet : {m : Machine} (x : SetUp m) → m .state ≡ started (x .b) (x .n) (x .k) (x .word)
+nothing-yet {m} x = started-is true (x .b) (x .n) (x .k) (x .word) (m .state) (x .accepted)
 
 no-role : {m : Machine} → SetUp m → (g f : ℕ) → role-of (m .state) g f ≡ 0
 no-role {m} x g f = rw (nothing-yet x) (unfold started in go)
@@ -108,7 +108,7 @@ no-role {m} x g f = rw (nothing-yet x) (unfold started in go)
 no-draining : {m : Machine} → SetUp m → (t g h p : ℕ) → m .state .kind t ≡ draining-table g h p → ⊥
 no-draining {m} x t g h p e = go (ap (λ (s : State). s .kind t) (sym (nothing-yet x)) ∙ e)
   where
-    go : started (x .n) (x .b) (x .k) (x .word) .kind t ≡ draining-table g h p → ⊥
+    go : started (x .b) (x .n) (x .k) (x .word) .kind t ≡ draining-table g h p → ⊥
     go q = unfold started in elim (started-kind (x .n) (x .k) t) [
       | inl a ↦ clash {x = monitor} {y = draining-table g h p} (sym a ∙ q) refl
       | inr a ↦ clash {x = free} {y = draining-table g h p} (sym a ∙ q) refl

@@ -17,7 +17,7 @@ use Rattle.model.specs.Machine.{Machine, Operation, Create, Give, Take, Map, Un
 use Rattle.model.specs.Terms.{expected}
 use Rattle.model_noninterference.specs.TwoRunsTerms.{reads, shown, Same-bytes, answered, Stores}
 use Rattle.model_noninterference.specs.ApartTerms.{concerns}
-use Rattle.model.specs.State.{sort}
+use Rattle.model.specs.State.{kind-number, FREE, TABLE}
 use Rattle.model.specs.Invariant.{Core}
 use Rattle.model.proofs.Invariant.Answer.{then-is, Sound}
 use Rattle.model.proofs.Invariant.Holds.{Holds}
@@ -111,7 +111,7 @@ pub record Called (g : ℕ) (m : Machine) (o : Operation) (m′ : Machine) : Typ
   pub still-kept : (v f r : ℕ) → reported g o ≡ false → m .caches .page-kept g v (m .state .first + f) r → m′ .caches .page-kept g v (m′ .state .first + f) r
   pub bytes : Bytes-stay g m m′
 
-role-sort : (g : ℕ) (x : Frame-kind) (how : ℕ) → (role g x how ≡ 0 → ⊥) → (eqb 1 (sort x) ≡ false) × (eqb 2 (sort x) ≡ false)
+role-sort : (g : ℕ) (x : Frame-kind) (how : ℕ) → (role g x how ≡ 0 → ⊥) → (eqb FREE (kind-number x) ≡ false) × (eqb TABLE (kind-number x) ≡ false)
 role-sort g monitor how n = absurd (n refl)
 role-sort g free how n = absurd (n refl)
 role-sort g (table h l p) how n = absurd (n refl)
@@ -158,7 +158,7 @@ apart-role g d (Take f′ h) e f k = rw e (no-and (eqb f f′))
     no-and true = refl
     no-and false = refl
 apart-role g d (Map f′ h a r pick) e f k = refl
-apart-role g d (Unmap h a) e f k = refl
+apart-role g d (Unmap a h) e f k = refl
 apart-role g d (Share o f′ h w) e f k = rw e (no-and (eqb f f′))
   where
     no-and : (b : Bool) → cond (b && false) 2 k ≡ k
@@ -177,7 +177,7 @@ apart-dirty g d (Create h pick) e = refl
 apart-dirty g d (Give f h) e = refl
 apart-dirty g d (Take f h) e = refl
 apart-dirty g d (Map f h a r pick) e = refl
-apart-dirty g d (Unmap h a) e = rw e
+apart-dirty g d (Unmap a h) e = rw e
 apart-dirty g d (Share o f h w) e = refl
 apart-dirty g d (Unshare o f h) e = refl
 apart-dirty g d (Destroy h) e = rw e
@@ -192,7 +192,7 @@ apart-expected g s (Create h pick) e v = refl
 apart-expected g s (Give f h) e v = refl
 apart-expected g s (Take f h) e v = refl
 apart-expected g s (Map f h a r pick) e v = rw (turned-eqb h g e)
-apart-expected g s (Unmap h a) e v = rw (turned-eqb h g e)
+apart-expected g s (Unmap a h) e v = rw (turned-eqb h g e)
 apart-expected g s (Share o f h w) e v = refl
 apart-expected g s (Unshare o f h) e v = refl
 apart-expected g s (Destroy h) e v = rw (turned-eqb h g e)
@@ -203,7 +203,7 @@ apart-reported g (Create h pick) e = refl
 apart-reported g (Give f h) e = refl
 apart-reported g (Take f h) e = refl
 apart-reported g (Map f h a r pick) e = refl
-apart-reported g (Unmap h a) e = refl
+apart-reported g (Unmap a h) e = refl
 apart-reported g (Share o f h w) e = refl
 apart-reported g (Unshare o f h) e = refl
 apart-reported g (Destroy h) e = refl

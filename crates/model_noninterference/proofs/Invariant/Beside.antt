@@ -87,7 +87,7 @@ module _ (g : ℕ) (R : Frames) (m : Machine) (p : Seen g R m m) (same : (f f′
   match-itself (Give f h) e s′ d = let q = eqb-true h g e in rw q gives
   match-itself (Take f h) e s′ d = let q = eqb-true h g e in rw q (takes (itself f (taken-role g (m .state) f s′ (rw q at d))))
   match-itself (Map f h a r pick) e s′ d = let q = eqb-true h g e in rw q (maps (itself f (mapped-role g (m .state) f a r pick s′ (rw q at d))))
-  match-itself (Unmap h a) e s′ d = let q = eqb-true h g e in rw q unmaps
+  match-itself (Unmap a h) e s′ d = let q = eqb-true h g e in rw q unmaps
   match-itself (Share o f h w) e s′ d =
       let q = eqb-true h g e in
       rw q (elim (bool? (shown (m .state) g f)) [ inl x ↦ lends (inl (itself f (shown-role (m .state) g f x))) | inr x ↦ lends (inr (x, x, λ i l. refl)) ])

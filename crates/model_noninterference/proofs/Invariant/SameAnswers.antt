@@ -198,7 +198,7 @@ module _ (g : ℕ) (s : State) (c : Core s) (w : ℕ → ℕ → ℕ) (m : Agree
       let y = grow 3 s h (s .root h) (a / 4096) pick in
       rw (x .1) (both-done (page-echo g (y .state) (x .0) (x .2) (y .last) (a / 4096 % 512) f r h))
 
-  unmap-echo : (h a : ℕ) → Both (Echo g) (unmap s h a) (unmap (reworded s w) h a)
+  unmap-echo : (h a : ℕ) → Both (Echo g) (unmap s a h) (unmap (reworded s w) a h)
   unfolding unmap
   unmap-echo h a =
       both-checked 5 refl λ e1. both-checked 7 refl λ e2. both-checked 11 (rw (same-pages g s w m c h (a / 4096) (address-low a e2))) λ e3.
@@ -250,7 +250,7 @@ module _ (g : ℕ) (s : State) (c : Core s) (w : ℕ → ℕ → ℕ) (m : Agree
   answer-echo (Give f h) ch x = both-checked 5 refl λ e1. both-checked 4 refl λ e2. both-checked 6 refl λ e3. both-done (given-echo g s w m f h)
   answer-echo (Take f h) ch x = take-echo f h
   answer-echo (Map f h a r pick) ch x = map-echo f h a r pick ch
-  answer-echo (Unmap h a) ch x = unmap-echo h a
+  answer-echo (Unmap a h) ch x = unmap-echo h a
   answer-echo (Share o f h y) ch x = share-echo o f h y x
   answer-echo (Unshare o f h) ch x = unshare-echo o f h
   answer-echo (Destroy h) ch x = both-checked 5 refl λ e1. both-checked 13 refl λ e2. both-done (guest-echo g s w m h)

@@ -13,7 +13,8 @@ use Rattle.model.proofs.Laws.Base.{and-true}
 use Rattle.model.specs.State.{State, page-count}
 use Rattle.model.specs.Operations.{done, refusal, check, set-up, started}
 use Rattle.model.proofs.Invariant.Holds.{started-core}
-use Rattle.ledger.specs.Layout.{words-for, room-for-frames, size-of, word-of, state-in}
+use Rattle.ledger.specs.Layout.{words-for, size-of, word-of, state-in}
+use Rattle.ledger.specs.Columns.{room-for-frames}
 use Rattle.ledger_free.specs.Start.{Laid-out}
 use Rattle.monitor_contract.proofs.Laws.Answers.{refused-so, stops, goes-on, through, and-left, and-right, and-both}
 use Rattle.monitor.specs.SetUp.{slices-fit, setting-up, SetUp}
@@ -22,7 +23,7 @@ pub few-enough : (b n : ℕ) → ram-fits b n ≡ true → n ≤ most-frames
 few-enough b n e = fits-so b n e .most
 
 -- one of the tests fails, or all hold
-module _ (n b k : ℕ) (m l : List ℕ) where
+module _ (b n k : ℕ) (m l : List ℕ) where
   abbrev Slices : Bool
   Slices = slices-fit n m l
 
@@ -33,25 +34,25 @@ module _ (n b k : ℕ) (m l : List ℕ) where
   abbrev All : Bool
   All = Slices && ram-fits b n && ltb k n
 
-  unfit : All ≡ false → 4 ≡ refusal (setting-up n b k m l)
+  unfit : All ≡ false → 4 ≡ refusal (setting-up b n k m l)
   unfolding set-up
   unfit e = stops All 4 _ e
 
-  pub bad-slices : Slices ≡ false → 4 ≡ refusal (setting-up n b k m l)
+  pub bad-slices : Slices ≡ false → 4 ≡ refusal (setting-up b n k m l)
   bad-slices e = unfit (and-left _ _ (and-left _ _ e))
 
-  pub bad-place : ram-fits b n ≡ false → 4 ≡ refusal (setting-up n b k m l)
+  pub bad-place : ram-fits b n ≡ false → 4 ≡ refusal (setting-up b n k m l)
   bad-place e = unfit (and-left _ _ (and-right Slices (ram-fits b n) e))
 
-  pub none-left : n ≤ k → 4 ≡ refusal (setting-up n b k m l)
+  pub none-left : n ≤ k → 4 ≡ refusal (setting-up b n k m l)
   none-left e = unfit (and-right (Slices && ram-fits b n) (ltb k n) (le-ltb k n e))
 
-  pub fits-all : Slices ≡ true → ram-fits b n ≡ true → k < n → 0 ≡ refusal (setting-up n b k m l)
+  pub fits-all : Slices ≡ true → ram-fits b n ≡ true → k < n → 0 ≡ refusal (setting-up b n k m l)
   unfolding set-up
   fits-all slices place few =
-      goes-on All 4 (done (started n b k (word-of m))) (and-both _ _ (and-both _ _ slices place) (lt-ltb k n few)) refl
+      goes-on All 4 (done (started b n k (word-of m))) (and-both _ _ (and-both _ _ slices place) (lt-ltb k n few)) refl
 
-  module _ (h : refusal (setting-up n b k m l) ≡ 0) where
+  module _ (h : refusal (setting-up b n k m l) ≡ 0) where
     all-fit : All ≡ true
     unfolding set-up
     all-fit = through All 4 _ (omega arith) h .0
@@ -70,13 +71,13 @@ module _ (n b k : ℕ) (m l : List ℕ) where
         let c = few-enough b n (tests .1) in
         (lengths .1, omega arith, ltb-true k n (and-true (Slices && ram-fits b n) (ltb k n) all-fit .1))
 
-    pub set-up-end : (l′ : List ℕ) → Laid-out n b k l′ → SetUp n b k m l 0 l′
+    pub set-up-end : (l′ : List ℕ) → Laid-out b n k l′ → SetUp b n k m l 0 l′
     set-up-end l′ x = record {
       sound = λ _. record { ledger-sound = x .ledger-sound; ram-fits = fits; core = rw (x .state m) (started-core n k b (word-of m) room) };
       outcome = rw made (refl, x .state m);
     }
       where
-        made : setting-up n b k m l ≡ done (started n b k (word-of m))
+        made : setting-up b n k m l ≡ done (started b n k (word-of m))
         made = unfold set-up check in rw all-fit
 
         room : b / frame-bytes + n ≤ page-count
@@ -88,5 +89,5 @@ module _ (n b k : ℕ) (m l : List ℕ) where
             let a = lengths .0 in
             omega arith
 
-  pub set-up-refused : (r : ℕ) → r ≡ refusal (setting-up n b k m l) → (r ≡ 0 → ⊥) → SetUp n b k m l r l
-  set-up-refused r e ne = record { sound = λ z. absurd (ne z); outcome = refused-so m l (setting-up n b k m l) r e ne }
+  pub set-up-refused : (r : ℕ) → r ≡ refusal (setting-up b n k m l) → (r ≡ 0 → ⊥) → SetUp b n k m l r l
+  set-up-refused r e ne = record { sound = λ z. absurd (ne z); outcome = refused-so m l (setting-up b n k m l) r e ne }

@@ -1,14 +1,11 @@
 -- Laws of specs/Answers.
 use mathlib.Core.Path.{_≡_, refl, sym, ap, _∙_}
 use mathlib.Core.Bool.{Bool, true, false, _&&_}
-use mathlib.Core.Logic.{_⊎_, inl, inr}
 use mathlib.Core.List.{List}
 use Prim.Native.Nat.{ℕ, _<_}
 use native.Mathlib.Omega.{arith}
-use lib.Dec.{ltb, leb}
 use lib.ListN.{length}
-use borrow.Author.Tests.{le-ltb, lt-leb}
-use Rattle.model.specs.State.{State, Frame-kind, guests, is-guest}
+use Rattle.model.specs.State.{State, Frame-kind}
 use Rattle.model.specs.Operations.{Out, refuse, done, refusal, check}
 use Rattle.model.specs.Cache.{Caches}
 use Rattle.model.specs.Invariant.{Core, Kept}
@@ -51,7 +48,8 @@ through true k o h e = (refl, e, refl)
 through false k o h e = absurd (omega arith)
 
 -- Sound after it: model's invariant holds of what the operation makes
-core-sound : (m l m′ l′ : List ℕ) (o : Out) → Sound m l → Then Core o → o ≡ done (state-of m′ l′) → Ledger-sound l′ → length m′ ≡ length m → state-of m′ l′ .size ≡ state-of m l .size → Sound m′ l′
+core-sound : (m l m′ l′ : List ℕ) (o : Out) → Sound m l → Then Core o → o ≡ done (state-of m′ l′) → Ledger-sound l′ →
+    length m′ ≡ length m → state-of m′ l′ .size ≡ state-of m l .size → Sound m′ l′
 unfolding state-in
 core-sound m l m′ l′ o s core e ledger-sound len size = record {
   ledger-sound = ledger-sound;
@@ -61,19 +59,26 @@ core-sound m l m′ l′ o s core e ledger-sound len size = record {
 
 -- the doing, from the state that it has made
 module _ (o : Operation) (after : State) {m l m′ l′ : List ℕ} (s : Sound m l) where
-  pub core-done : Then Core (out o m l) → out o m l ≡ done after → Ledger-sound l′ → length m′ ≡ length m → after .size ≡ state-of m l .size → state-of m′ l′ ≡ after → Done o m l m′ l′
-  core-done core e ledger-sound len size state = record { sound = core-sound m l m′ l′ (out o m l) s core made ledger-sound len (ap (λ (x : State). x .size) state ∙ size); made = made }
+  pub core-done : Then Core (out o m l) → out o m l ≡ done after → Ledger-sound l′ → length m′ ≡ length m →
+      after .size ≡ state-of m l .size → state-of m′ l′ ≡ after → Done o m l m′ l′
+  core-done core e ledger-sound len size state = record {
+    sound = core-sound m l m′ l′ (out o m l) s core made ledger-sound len
+        (ap (λ (x : State). x .size) state ∙ size);
+    made = made;
+  }
     where
       made : out o m l ≡ done (state-of m′ l′)
       made = e ∙ ap done (sym state)
 
   -- the same of an operation that forgets nothing of what is kept
-  pub good-done : ((k : Caches) → Kept (state-of m l) k → Good k (out o m l)) → out o m l ≡ done after → Ledger-sound l′ → length m′ ≡ length m → after .size ≡ state-of m l .size → state-of m′ l′ ≡ after →
+  pub good-done : ((k : Caches) → Kept (state-of m l) k → Good k (out o m l)) → out o m l ≡ done after → Ledger-sound l′ →
+      length m′ ≡ length m → after .size ≡ state-of m l .size → state-of m′ l′ ≡ after →
       Done o m l m′ l′
   good-done good = core-done (core-alone (state-of m l) (out o m l) good)
 
 -- a frame is still there when another field has changed
-pub still-low : {φ : State → State} {l l′ : List ℕ} → Changed φ l l′ → ((s : State) → φ s .size ≡ s .size) → (f : ℕ) → f < size-of l → f < size-of l′
+pub still-low : {φ : State → State} {l l′ : List ℕ} → Changed φ l l′ → ((s : State) → φ s .size ≡ s .size) → (f : ℕ) → f < size-of l →
+    f < size-of l′
 still-low {φ} {l} {l′} c keeps f h = let e : size-of l′ ≡ size-of l = same in omega arith
   where
     same : size-of l′ ≡ size-of l
@@ -92,7 +97,3 @@ and-right false b e = refl
 
 pub and-both : (a b : Bool) → a ≡ true → b ≡ true → (a && b) ≡ true
 and-both a b e f = rw (e, f)
-
-pub no-guest : (g : ℕ) → (g ≡ 0) ⊎ (guests < g) → is-guest g ≡ false
-no-guest g (inl e) = and-left (ltb 0 g) (leb g guests) (le-ltb 0 g (omega arith))
-no-guest g (inr e) = and-right (ltb 0 g) (leb g guests) (lt-leb g guests e)

@@ -14,7 +14,8 @@ use Rattle.model.proofs.Laws.Base.{upd-at, upd-other}
 use Rattle.model.specs.State.{State, Frame-kind, monitor, is-guest}
 use Rattle.model.specs.Changes.{zeros, drained, released}
 use Rattle.ledger.specs.Cells.{cell}
-use Rattle.ledger.specs.Layout.{room-for-frames, frames, kind-in, per-guest, count-part, size-of, kind-of, count-of, state-in, state-of}
+use Rattle.ledger.specs.Columns.{ROW-WORDS, HEADER-WORDS, room-for-frames, CELLS}
+use Rattle.ledger.specs.Layout.{frames, kind-in, per-guest, count-part, size-of, kind-of, count-of, state-in, state-of}
 use Rattle.ledger.specs.Fields.{remade, with-kind, with-kind-by, with-count}
 use Rattle.ledger.specs.LedgerSound.{Ledger-sound, Changed}
 use Rattle.ledger.proofs.Laws.LedgerSound.{changed-as, changed-then}
@@ -54,8 +55,13 @@ module _ (K : Frame-kind → Frame-kind) (C : (ℕ → ℕ) → ℕ → ℕ) whe
       none : (s : State) → turned-below K C 0 s ≡ s
       none s = unfold turned-below in same-rows s (below-none K (s .kind)) (below-none C (s .count)) ∙ (unfold with-rows remade in refl)
 
-  pub one-more-turned : {l l₁ l₂ : List ℕ} (i : ℕ) → Changed (turned-below K C i) l l₁ → Changed (frame-turned K C i) l₁ l₂ → Changed (turned-below K C (i + 1)) l l₂
-  one-more-turned {l} i a b = record { ledger-sound = b .ledger-sound; state = λ ram. b .state ram ∙ ap (frame-turned K C i) (a .state ram) ∙ more (state-of ram l) }
+  pub one-more-turned : {l l₁ l₂ : List ℕ} (i : ℕ) → Changed (turned-below K C i) l l₁ → Changed (frame-turned K C i) l₁ l₂ →
+      Changed (turned-below K C (i + 1)) l l₂
+  one-more-turned {l} i a b = record {
+    ledger-sound = b .ledger-sound;
+    state = λ ram. b .state ram
+        ∙ ap (frame-turned K C i) (a .state ram) ∙ more (state-of ram l);
+  }
     where
       more : (s : State) → frame-turned K C i (turned-below K C i s) ≡ turned-below K C (i + 1) s
       more s = unfold frame-turned turned-below with-rows remade in same-rows s (below-more K (s .kind) i) (below-more C (s .count) i)
@@ -66,22 +72,23 @@ module _ (K : Frame-kind → Frame-kind) (C : (ℕ → ℕ) → ℕ → ℕ) whe
 -- a row that is not there
 count-past : (l : List ℕ) → Ledger-sound l → (f : ℕ) → size-of l ≤ f → count-of l f ≡ zeros
 count-past l s f h = fun-ext (λ g. elim (bool? (is-guest g)) [
-  | inl e ↦ unfold per-guest zeros in rw e (ap count-part (cell-past (3 + g)) ∙ (unfold count-part in refl))
+  | inl e ↦ unfold per-guest zeros in rw e (ap count-part (cell-past (CELLS + g)) ∙ (unfold count-part in refl))
   | inr e ↦ unfold per-guest zeros in rw e
 ])
   where
     cell-past : (j : ℕ) → frames l j f ≡ 0
-    cell-past j = unfold cell in go (ltb j 16 && ltb f room-for-frames)
+    cell-past j = unfold cell in go (ltb j ROW-WORDS && ltb f room-for-frames)
       where
-        gone : getD l (144 + 16 * f + j) 0 ≡ 0
+        gone : getD l (HEADER-WORDS + ROW-WORDS * f + j) 0 ≡ 0
         gone = List·getD-eq-default l 0 (let a = s .length-fits in omega arith)
 
-        go : (b : Bool) → cond b (getD l (144 + 16 * f + j) 0) 0 ≡ 0
+        go : (b : Bool) → cond b (getD l (HEADER-WORDS + ROW-WORDS * f + j) 0) 0 ≡ 0
         go true = gone
         go false = refl
 
 -- after the last turn
-pub turned-all : (K : Frame-kind → Frame-kind) (C : (ℕ → ℕ) → ℕ → ℕ) (m l : List ℕ) → Ledger-sound l → K monitor ≡ monitor → C zeros ≡ zeros → turned-below K C (size-of l) (state-of m l) ≡ all-turned K C (state-of m l)
+pub turned-all : (K : Frame-kind → Frame-kind) (C : (ℕ → ℕ) → ℕ → ℕ) (m l : List ℕ) → Ledger-sound l → K monitor ≡ monitor →
+    C zeros ≡ zeros → turned-below K C (size-of l) (state-of m l) ≡ all-turned K C (state-of m l)
 unfolding turned-below all-turned state-in
 turned-all K C m l s p q = same-rows (state-of m l)
     (below-all K (kind-of l) (size-of l) (λ f h. let e : kind-of l f ≡ monitor = unfold kind-in in rw (le-ltb f (size-of l) h) in rw e p))
@@ -93,7 +100,8 @@ release-turn {l} f g c = changed-as c (λ ram. turn (state-of ram l))
     turn : (s : State) → with-kind-by f (released g) s ≡ frame-turned (released g) same f s
     turn s = unfold with-kind-by with-kind frame-turned with-rows in same-rows s refl (sym (upd-self (s .count) f))
 
-pub drain-turn : {l l₁ l′ : List ℕ} (f g : ℕ) → Changed (with-kind-by f (drained g)) l l₁ → Changed (with-count f g 0) l₁ l′ → Changed (frame-turned (drained g) (without g) f) l l′
+pub drain-turn : {l l₁ l′ : List ℕ} (f g : ℕ) → Changed (with-kind-by f (drained g)) l l₁ → Changed (with-count f g 0) l₁ l′ →
+    Changed (frame-turned (drained g) (without g) f) l l′
 drain-turn {l} f g c d = changed-as (changed-then c d) (λ ram. turn (state-of ram l))
   where
     turn : (s : State) → with-count f g 0 (with-kind-by f (drained g) s) ≡ frame-turned (drained g) (without g) f s

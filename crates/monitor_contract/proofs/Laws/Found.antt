@@ -33,7 +33,8 @@ root-is m l g = refl
 
 -- model's round trip, on the bytes
 pub finds-asked : (m l : List ℕ) → Sound m l → (g a : ℕ) (o : Option Page) → Asked-at g a o (state-of m l) → Finds g a o m l
-finds-asked m l ok g a o x k low w = subst (λ (t : ℕ). stage-2 m (base-of l) (base-of l + 4096 * t) (access w) (a + k) .result ≡ comes (base-of l) k 0 w o) (root-is m l g)
+finds-asked m l ok g a o x k low w = subst (λ (t : ℕ). stage-2 m (base-of l) (base-of l + 4096 * t) (access w) (a + k) .result ≡
+    comes (base-of l) k 0 w o) (root-is m l g)
     (walk-asked (image-of m l ok) x k low w)
 
 pub tested : (b : Bool) (n : ℕ) (o : Out) → 0 < n → Nonzero o → Nonzero (check b n o)

@@ -18,7 +18,11 @@ unfolding destroy state-in
 returns c = stops _ 5 _ (sym (c .before .exists .ensures) ∙ not-true _ (c .if1 .taken))
 
 all-unshared-requires : tie.Need-all-unshared-requires
-all-unshared-requires c κs = (c .before .before .before .before .pre, guest-there (c .before .before .before .before .args .ram .now) (c .before .before .before .before .args .ledger .now) (c .before .before .before .before .pre) (c .before .before .before .before .args .g) (sym (c .before .exists .ensures) ∙ not-false _ (c .if1 .left)))
+all-unshared-requires c κs = (
+  c .before .before .before .before .pre,
+  guest-there (c .before .before .before .before .args .ram .now) (c .before .before .before .before .args .ledger .now) (c .before .before .before .before .pre) (c .before .before .before .before .args .g)
+      (sym (c .before .exists .ensures) ∙ not-false _ (c .if1 .left)),
+)
 
 returns-2 : tie.Need-returns-2
 unfolding destroy state-in

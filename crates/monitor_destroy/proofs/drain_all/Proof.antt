@@ -15,7 +15,8 @@ use Rattle.monitor_destroy.proofs.drain_all.Statement.{statement}
 use Rattle.monitor_destroy.proofs.drain_all.Tie as tie
 
 abbrev Inv-loop : tie.InvT-loop
-Inv-loop ledger₀ g n f₀ ledger f = (f ≤ n) × Changed (turned-below (drained g) (without g) f) ledger₀ ledger × (length ledger ≡ length ledger₀)
+Inv-loop ledger₀ g n f₀ ledger f = (f ≤ n) × Changed (turned-below (drained g) (without g) f) ledger₀ ledger ×
+    (length ledger ≡ length ledger₀)
 
 abbrev μ-loop : tie.MeasureT-loop
 μ-loop ledger₀ g n f₀ ledger f = n - f
@@ -27,10 +28,22 @@ loop-holds : tie.Need-loop-holds Inv-loop μ-loop
 loop-holds c = (omega arith, none-turned (drained (c .before .before .before .args .g)) (without (c .before .before .before .args .g)) (c .before .before .before .args .ledger .now) (c .before .before .before .pre .0), refl)
 
 drain-requires : tie.Need-drain-requires Inv-loop μ-loop
-drain-requires c κs = (c .before .before .loop .inv .1 .ledger-sound, (turned-low (drained (c .before .before .before .before .before .before .args .g)) (without (c .before .before .before .before .before .before .args .g)) (c .before .before .loop .f) (c .before .before .loop .inv .1) (c .before .before .loop .f) (omega (arith, c .before .before .before .size .ensures .0, c .before .loop-test .taken))))
+drain-requires c κs = (
+  c .before .before .loop .inv .1 .ledger-sound,
+  (turned-low (drained (c .before .before .before .before .before .before .args .g)) (without (c .before .before .before .before .before .before .args .g)) (c .before .before .loop .f) (c .before .before .loop .inv .1) (c .before .before .loop .f)
+      (omega (arith, c .before .before .before .size .ensures .0, c .before .loop-test .taken))),
+)
 
 set-count-requires : tie.Need-set-count-requires Inv-loop μ-loop
-set-count-requires c κs = (c .before .before .before .drain .ensures .ledger-sound, (still-low (c .before .before .before .drain .ensures) (λ s. unfold with-kind-by with-kind remade in refl) (c .before .before .before .before .before .before .loop .f) ((turned-low (drained (c .before .before .before .before .before .before .before .before .before .before .args .g)) (without (c .before .before .before .before .before .before .before .before .before .before .args .g)) (c .before .before .before .before .before .before .loop .f) (c .before .before .before .before .before .before .loop .inv .1) (c .before .before .before .before .before .before .loop .f) (omega (arith, c .before .before .before .before .before .before .before .size .ensures .0, c .before .before .before .before .before .loop-test .taken)))), (c .before .before .before .before .before .before .before .before .before .before .pre .1, omega arith)))
+set-count-requires c κs = (
+  c .before .before .before .drain .ensures .ledger-sound,
+  (
+    still-low (c .before .before .before .drain .ensures) (λ s. unfold with-kind-by with-kind remade in refl)
+        (c .before .before .before .before .before .before .loop .f) ((turned-low (drained (c .before .before .before .before .before .before .before .before .before .before .args .g)) (without (c .before .before .before .before .before .before .before .before .before .before .args .g)) (c .before .before .before .before .before .before .loop .f) (c .before .before .before .before .before .before .loop .inv .1) (c .before .before .before .before .before .before .loop .f)
+        (omega (arith, c .before .before .before .before .before .before .before .size .ensures .0, c .before .before .before .before .before .loop-test .taken)))),
+    (c .before .before .before .before .before .before .before .before .before .before .pre .1, omega arith),
+  ),
+)
 
 add-f : tie.Need-add-f Inv-loop μ-loop
 add-f c = omega (arith, c .before .before .before .before .before .before .before .before .before .before .size .ensures .1)
@@ -41,7 +54,8 @@ loop-less c = omega arith
 loop-again : tie.Need-loop-again Inv-loop μ-loop
 loop-again c = (
   omega arith,
-  one-more-turned (drained (c .before .before .before .before .before .before .before .before .before .before .before .before .before .args .g)) (without (c .before .before .before .before .before .before .before .before .before .before .before .before .before .args .g)) (c .before .before .before .before .before .before .before .before .before .loop .f) (c .before .before .before .before .before .before .before .before .before .loop .inv .1) (drain-turn (c .before .before .before .before .before .before .before .before .before .loop .f) (c .before .before .before .before .before .before .before .before .before .before .before .before .before .args .g) (c .before .before .before .before .before .before .drain .ensures) (c .before .before .set-count .ensures)),
+  one-more-turned (drained (c .before .before .before .before .before .before .before .before .before .before .before .before .before .args .g)) (without (c .before .before .before .before .before .before .before .before .before .before .before .before .before .args .g)) (c .before .before .before .before .before .before .before .before .before .loop .f) (c .before .before .before .before .before .before .before .before .before .loop .inv .1)
+      (drain-turn (c .before .before .before .before .before .before .before .before .before .loop .f) (c .before .before .before .before .before .before .before .before .before .before .before .before .before .args .g) (c .before .before .before .before .before .before .drain .ensures) (c .before .before .set-count .ensures)),
   omega (arith, c .before .before .before .before .before .before .drain .kept, c .before .before .set-count .kept, c .before .before .before .before .before .before .before .before .before .loop .inv .2),
 )
 

@@ -13,6 +13,7 @@ use Rattle.model.specs.Changes.{zeros, becomes}
 use Rattle.model.specs.Operations.{done, refusal, check, give}
 use Rattle.model.proofs.Invariant.Kinds.{free-is}
 use Rattle.model.proofs.Invariant.GiveTake.{give-good}
+use Rattle.ledger.specs.Columns.{GUEST-ROWS}
 use Rattle.ledger.specs.Layout.{size-of, exists-of, kind-of, word-of, state-in, state-of}
 use Rattle.ledger.specs.Fields.{remade, with-kind, with-no-shares, with-words}
 use Rattle.ledger.specs.LedgerSound.{Changed, Taken}
@@ -32,7 +33,7 @@ module _ {m l : List ℕ} (ok : Sound m l) (f g : ℕ) (h : refusal (give (state
   unfolding give state-in
   exists-here = through (exists-of l g) 5 _ (omega arith) h .0
 
-  pub give-guest : g < 9
+  pub give-guest : g < GUEST-ROWS
   give-guest = guest-low g (guest-there m l ok g exists-here) .1
 
   rest-4 : refusal (check (ltb f (size-of l)) 4 (check (is-free (kind-of l f)) 6 (done after))) ≡ 0
@@ -53,8 +54,10 @@ module _ {m l : List ℕ} (ok : Sound m l) (f g : ℕ) (h : refusal (give (state
   give-is = rw (exists-here, through (ltb f (size-of l)) 4 _ (omega arith) rest-4 .0, free-test)
 
   -- the frame is taken, nobody shares it, and its words are 0
-  pub give-end : (l₁ l′ m′ : List ℕ) → Taken f (page g) l l₁ → Changed (with-no-shares f) l₁ l′ → word-of m′ ≡ upd (word-of m) f zeros → length m′ ≡ length m → Done (giving f g) m l m′ l′
-  give-end l₁ l′ m′ t c w len = good-done (giving f g) after ok (λ k q. give-good (state-of m l) (ok .core) k q f g) give-is (c .ledger-sound) len (unfold becomes in refl) state
+  pub give-end : (l₁ l′ m′ : List ℕ) → Taken f (page g) l l₁ → Changed (with-no-shares f) l₁ l′ → word-of m′ ≡ upd (word-of m) f zeros →
+      length m′ ≡ length m → Done (giving f g) m l m′ l′
+  give-end l₁ l′ m′ t c w len = good-done (giving f g) after ok (λ k q. give-good (state-of m l) (ok .core) k q f g) give-is
+      (c .ledger-sound) len (unfold becomes in refl) state
     where
       same : with-no-shares f (with-kind f (page g) (with-words (upd (word-of m) f zeros) (state-of m l))) ≡ after
       same = unfold with-no-shares with-kind with-words remade becomes in refl

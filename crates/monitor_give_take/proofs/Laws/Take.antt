@@ -35,8 +35,10 @@ module _ {m l : List ℕ} (ok : Sound m l) (f g : ℕ) (h : refusal (take (state
       let a = through (exists-of l g) 5 _ (omega arith) h in
       let b = through (ltb f (size-of l)) 4 _ (omega arith) (a .1) in
       let c = through (is-page-of (kind-of l f) g) 9 _ (omega arith) (b .1) in
-      let d = through (eqb (total (count-of l f)) 0 && eqb (total (shared-of l f)) 0) 13 _ (omega arith) (c .1) in
-      (record { low = ltb-true f (size-of l) (b .0); its-page = page-of-is (kind-of l f) g (c .0); there = guest-there m l ok g (a .0) }, a .2 ∙ b .2 ∙ c .2 ∙ d .2)
+      let d = through (eqb (total (count-of l f)) 0 && eqb (total (shared-of l f)) 0) 13 _ (omega arith) (c .1) in (
+        record { low = ltb-true f (size-of l) (b .0); its-page = page-of-is (kind-of l f) g (c .0); there = guest-there m l ok g (a .0) },
+        a .2 ∙ b .2 ∙ c .2 ∙ d .2,
+      )
 
   pub take-owned : Owned l f g g
   take-owned = take-passed .0
@@ -44,7 +46,8 @@ module _ {m l : List ℕ} (ok : Sound m l) (f g : ℕ) (h : refusal (take (state
   pub take-not-free : is-free (kind-of l f) ≡ false
   take-not-free = rw (take-owned .its-page)
 
-  take-end : {φ : State → State} (l′ : List ℕ) (k : Frame-kind) → k ≡ then-kind → φ (state-of m l) ≡ with-kind f k (state-of m l) → Changed φ l l′ → Done (taking f g) m l m l′
+  take-end : {φ : State → State} (l′ : List ℕ) (k : Frame-kind) → k ≡ then-kind → φ (state-of m l) ≡ with-kind f k (state-of m l) →
+      Changed φ l l′ → Done (taking f g) m l m l′
   take-end l′ k e q c =
       changed-so (taking f g) (after then-kind) ok (λ x y. take-good (state-of m l) (ok .core) x y f g) (take-passed .1) c
       (q ∙ same ∙ ap after e) (unfold becomes in refl)

@@ -22,7 +22,8 @@ size-requires c κs = c .before .before .before .before .pre .ledger-sound
 
 returns-2 : tie.Need-returns-2
 unfolding give state-in
-returns-2 c = (goes-on _ 5 _ (sym (c .before .before .before .exists .ensures) ∙ not-false _ (c .before .before .if1 .left))) (stops _ 4 _ (le-ltb (c .before .before .before .before .before .before .args .f) (size-of (c .before .before .before .before .before .before .args .ledger .now)) (omega (arith, c .before .size .ensures .0, c .if2 .taken))))
+returns-2 c = (goes-on _ 5 _ (sym (c .before .before .before .exists .ensures) ∙ not-false _ (c .before .before .if1 .left))) (stops _ 4 _ (le-ltb (c .before .before .before .before .before .before .args .f) (size-of (c .before .before .before .before .before .before .args .ledger .now))
+    (omega (arith, c .before .size .ensures .0, c .if2 .taken))))
 
 is-free-requires : tie.Need-is-free-requires
 is-free-requires c κs = (c .before .before .before .before .before .before .pre .ledger-sound, (omega (arith, c .before .size .ensures .0, c .if2 .left)))

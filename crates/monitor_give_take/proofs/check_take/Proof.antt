@@ -42,12 +42,14 @@ returns-4 c = (goes-on _ 5 _ (sym (c .before .before .before .before .before .be
 
 returns-5 : tie.Need-returns-5
 unfolding take state-in
-returns-5 c = (goes-on _ 5 _ (sym (c .before .before .before .before .before .before .before .before .before .before .exists .ensures) ∙ not-false _ (c .before .before .before .before .before .before .before .before .before .if1 .left))) ((goes-on _ 4 _ (lt-ltb (c .before .before .before .before .before .before .before .before .before .before .before .before .before .args .f) (size-of (c .before .before .before .before .before .before .before .before .before .before .before .before .before .args .ledger .now)) ((omega (arith, c .before .before .before .before .before .before .before .before .size .ensures .0, c .before .before .before .before .before .before .before .if2 .left))))) ((goes-on _ 9 _ (sym (c .before .before .before .before .before .before .is-page-of .ensures) ∙ not-false _ (c .before .before .before .before .before .if3 .left))) (stops _ 13 _ (and-right (eqb (total (count-of (c .before .before .before .before .before .before .before .before .before .before .before .before .before .args .ledger .now) (c .before .before .before .before .before .before .before .before .before .before .before .before .before .args .f))) 0) _ (ne-eqb (total (shared-of (c .before .before .before .before .before .before .before .before .before .before .before .before .before .args .ledger .now) (c .before .before .before .before .before .before .before .before .before .before .before .before .before .args .f))) 0 (λ e. c .if5 .taken (c .before .before .before .before .uses .ensures .1 ∙ e)))))))
+returns-5 c = (goes-on _ 5 _ (sym (c .before .before .before .before .before .before .before .before .before .before .exists .ensures) ∙ not-false _ (c .before .before .before .before .before .before .before .before .before .if1 .left))) ((goes-on _ 4 _ (lt-ltb (c .before .before .before .before .before .before .before .before .before .before .before .before .before .args .f) (size-of (c .before .before .before .before .before .before .before .before .before .before .before .before .before .args .ledger .now)) ((omega (arith, c .before .before .before .before .before .before .before .before .size .ensures .0, c .before .before .before .before .before .before .before .if2 .left))))) ((goes-on _ 9 _ (sym (c .before .before .before .before .before .before .is-page-of .ensures) ∙ not-false _ (c .before .before .before .before .before .if3 .left))) (stops _ 13 _ (and-right (eqb (total (count-of (c .before .before .before .before .before .before .before .before .before .before .before .before .before .args .ledger .now) (c .before .before .before .before .before .before .before .before .before .before .before .before .before .args .f))) 0) _
+    (ne-eqb (total (shared-of (c .before .before .before .before .before .before .before .before .before .before .before .before .before .args .ledger .now) (c .before .before .before .before .before .before .before .before .before .before .before .before .before .args .f))) 0 (λ e. c .if5 .taken (c .before .before .before .before .uses .ensures .1 ∙ e)))))))
 
 returns-6 : tie.Need-returns-6
 unfolding take state-in
 returns-6 c = (goes-on _ 5 _ (sym (c .before .before .before .before .before .before .before .before .before .before .exists .ensures) ∙ not-false _ (c .before .before .before .before .before .before .before .before .before .if1 .left))) ((goes-on _ 4 _ (lt-ltb (c .before .before .before .before .before .before .before .before .before .before .before .before .before .args .f) (size-of (c .before .before .before .before .before .before .before .before .before .before .before .before .before .args .ledger .now)) ((omega (arith, c .before .before .before .before .before .before .before .before .size .ensures .0, c .before .before .before .before .before .before .before .if2 .left))))) ((goes-on _ 9 _ (sym (c .before .before .before .before .before .before .is-page-of .ensures) ∙ not-false _ (c .before .before .before .before .before .if3 .left)))
-    (goes-on _ 13 _ (and-both _ _ (eq-eqb (total (count-of (c .before .before .before .before .before .before .before .before .before .before .before .before .before .args .ledger .now) (c .before .before .before .before .before .before .before .before .before .before .before .before .before .args .f))) 0 (sym (c .before .before .before .before .uses .ensures .0) ∙ c .before .before .if4 .left)) (eq-eqb (total (shared-of (c .before .before .before .before .before .before .before .before .before .before .before .before .before .args .ledger .now) (c .before .before .before .before .before .before .before .before .before .before .before .before .before .args .f))) 0 (sym (c .before .before .before .before .uses .ensures .1) ∙ c .if5 .left))) refl)))
+    (goes-on _ 13 _ (and-both _ _ (eq-eqb (total (count-of (c .before .before .before .before .before .before .before .before .before .before .before .before .before .args .ledger .now) (c .before .before .before .before .before .before .before .before .before .before .before .before .before .args .f))) 0 (sym (c .before .before .before .before .uses .ensures .0) ∙ c .before .before .if4 .left))
+    (eq-eqb (total (shared-of (c .before .before .before .before .before .before .before .before .before .before .before .before .before .args .ledger .now) (c .before .before .before .before .before .before .before .before .before .before .before .before .before .args .f))) 0 (sym (c .before .before .before .before .uses .ensures .1) ∙ c .if5 .left))) refl)))
 
 pub check-take-spec : {M : Type 1} → statement M
 check-take-spec =

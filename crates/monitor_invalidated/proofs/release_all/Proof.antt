@@ -25,7 +25,11 @@ loop-holds : tie.Need-loop-holds Inv-loop μ-loop
 loop-holds c = (omega arith, none-turned (released (c .before .before .before .args .g)) same (c .before .before .before .args .ledger .now) (c .before .before .before .pre), refl)
 
 release-requires : tie.Need-release-requires Inv-loop μ-loop
-release-requires c κs = (c .before .before .loop .inv .1 .ledger-sound, turned-low (released (c .before .before .before .before .before .before .args .g)) same (c .before .before .loop .f) (c .before .before .loop .inv .1) (c .before .before .loop .f) (omega (arith, c .before .before .before .size .ensures .0, c .before .loop-test .taken)))
+release-requires c κs = (
+  c .before .before .loop .inv .1 .ledger-sound,
+  turned-low (released (c .before .before .before .before .before .before .args .g)) same (c .before .before .loop .f) (c .before .before .loop .inv .1) (c .before .before .loop .f)
+      (omega (arith, c .before .before .before .size .ensures .0, c .before .loop-test .taken)),
+)
 
 add-f : tie.Need-add-f Inv-loop μ-loop
 add-f c = omega (arith, c .before .before .before .before .before .before .size .ensures .1)
@@ -34,7 +38,12 @@ loop-less : tie.Need-loop-less Inv-loop μ-loop
 loop-less c = omega arith
 
 loop-again : tie.Need-loop-again Inv-loop μ-loop
-loop-again c = (omega arith, one-more-turned (released (c .before .before .before .before .before .before .before .before .before .args .g)) same (c .before .before .before .before .before .loop .f) (c .before .before .before .before .before .loop .inv .1) (release-turn (c .before .before .before .before .before .loop .f) (c .before .before .before .before .before .before .before .before .before .args .g) (c .before .before .release .ensures)), omega (arith, c .before .before .release .kept, c .before .before .before .before .before .loop .inv .2))
+loop-again c = (
+  omega arith,
+  one-more-turned (released (c .before .before .before .before .before .before .before .before .before .args .g)) same (c .before .before .before .before .before .loop .f) (c .before .before .before .before .before .loop .inv .1)
+      (release-turn (c .before .before .before .before .before .loop .f) (c .before .before .before .before .before .before .before .before .before .args .g) (c .before .before .release .ensures)),
+  omega (arith, c .before .before .release .kept, c .before .before .before .before .before .loop .inv .2),
+)
 
 same-length : tie.Need-same-length Inv-loop μ-loop
 same-length c = omega (arith, c .before .loop .inv .2)

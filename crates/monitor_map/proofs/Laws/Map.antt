@@ -2,26 +2,25 @@
 use mathlib.Core.Path.{_≡_, refl, sym, ap, _∙_}
 use mathlib.Core.Bool.{Bool, true, false, not, _&&_, _||_}
 use mathlib.Core.Logic.{inl, inr}
-use mathlib.Core.Option.{Option, some}
+use mathlib.Core.Option.{some}
 use mathlib.Core.List.{List}
-use Prim.Native.Nat.{ℕ, suc, _+_, _-_, _<_, _≤_, _/_, _%_, _^_}
+use Prim.Native.Nat.{ℕ, suc, _+_, _-_, _<_, _≤_, _/_, _%_}
 use native.Mathlib.Omega.{arith}
 use lib.Dec.{eqb, ltb, leb}
 use lib.ListN.{length}
 use borrow.Author.Tests.{le-leb, lt-leb, lt-ltb, le-ltb, ne-eqb}
 use Rattle.model.proofs.Laws.Base.{lt?}
 use Rattle.model.specs.Base.{upd2}
-use Rattle.model.specs.State.{State, page, page-count, is-page, is-page-of, free-frames}
+use Rattle.model.specs.State.{WRITE, EXECUTE, NOTHING, WRITING, State, page, page-count, is-page, is-page-of, free-frames}
 use Rattle.model.specs.Entry.{page-entry}
-use Rattle.model.specs.Translate.{Page, is-some, mapped, missing}
+use Rattle.model.specs.Translate.{mapped, missing}
 use Rattle.model.specs.Changes.{Grown, grow, with-page, with-mapping}
 use Rattle.model.specs.Operations.{Out, refuse, done, refusal, check, page-address, is-rights, shares, may-map, map}
-use Rattle.model.proofs.Laws.Ways.{shows}
 use Rattle.model.specs.Invariant.{May}
 use Rattle.model.proofs.Invariant.Core.{low}
-use Rattle.model.proofs.Invariant.Way.{translate-at}
 use Rattle.model.proofs.Invariant.Answer.{core-alone, then-is, may-is}
 use Rattle.model.proofs.Invariant.MapUnmap.{address-low, map-good}
+use Rattle.ledger.specs.Columns.{SHARE-UNIT}
 use Rattle.ledger.specs.Layout.{size-of, first-of, exists-of, kind-of, shared-of, count-of, word-of, pick-of, state-in, state-of}
 use Rattle.ledger.specs.Fields.{remade, with-count, with-words}
 use Rattle.ledger.specs.LedgerSound.{Changed}
@@ -30,15 +29,15 @@ use Rattle.ledger.specs.Sound.{Sound, free-of}
 use Rattle.ledger.proofs.Laws.Sound.{free-is, chosen, count-fits}
 use Rattle.monitor_contract.specs.Answers.{Done}
 use Rattle.monitor_contract.proofs.Laws.Answers.{through}
-use Rattle.monitor_descent.specs.Way.{Ended}
-use Rattle.monitor_descent.proofs.Laws.Way.{ended-above, ended-missing, last-serves, last-leaf, last-empty}
+use Rattle.monitor_tables.specs.Way.{Ended}
+use Rattle.monitor_tables.proofs.Laws.Way.{ended-missing}
 use Rattle.model.specs.Machine.{Map, answer}
 use Rattle.model.proofs.Invariant.Effects.{rows}
 use Rattle.model.proofs.Invariant.RoundTrip.{after-map}
 use Rattle.monitor_contract.specs.Found.{Translates, Finds, Nonzero}
 use Rattle.monitor_contract.proofs.Laws.Found.{finds-asked, tested, was-done}
-use Rattle.monitor_tables.specs.NewTable.{Made}
-use Rattle.monitor_map.specs.Map.{mapping, six, asked, allows, Granted, Ready, Filling}
+use Rattle.monitor_tables.specs.NewTable.{Growing, Made}
+use Rattle.monitor_map.specs.Map.{mapping, six, asked, allows, Granted, Ready}
 
 pub allows-own : (l : List ℕ) (f g r : ℕ) → is-page-of (kind-of l f) g ≡ true → true ≡ allows l f g r
 allows-own l f g r e = rw e
@@ -46,7 +45,8 @@ allows-own l f g r e = rw e
 pub allows-none : (l : List ℕ) (f g r : ℕ) → is-page-of (kind-of l f) g ≡ false → is-page (kind-of l f) ≡ false → false ≡ allows l f g r
 allows-none l f g r e q = rw (e, q)
 
-pub allows-shared : (l : List ℕ) (f g r : ℕ) → is-page-of (kind-of l f) g ≡ false → is-page (kind-of l f) ≡ true → (how : ℕ) → how ≡ shared-of l f g → (b : Bool) → b ≡ shares how r → b ≡ allows l f g r
+pub allows-shared : (l : List ℕ) (f g r : ℕ) → is-page-of (kind-of l f) g ≡ false → is-page (kind-of l f) ≡ true → (how : ℕ) →
+    how ≡ shared-of l f g → (b : Bool) → b ≡ shares how r → b ≡ allows l f g r
 allows-shared l f g r e q how z b y = rw (e, q) (y ∙ ap (λ (x : ℕ). shares x r) z)
 
 -- the last of the rights
@@ -55,33 +55,35 @@ rights-last r a b c = rw (ne-eqb r 1 a, ne-eqb r 3 b, ne-eqb r 5 c)
 
 -- the tests of a share
 module _ (how r : ℕ) where
-  pub shares-none : how ≡ 0 → false ≡ shares how r
+  pub shares-none : how ≡ NOTHING → false ≡ shares how r
   unfolding shares
-  shares-none e = rw (le-ltb 0 how (omega arith))
+  shares-none e = rw (le-ltb NOTHING how (omega arith))
 
-  pub shares-run : 4 ≤ r → false ≡ shares how r
+  pub shares-run : EXECUTE ≤ r → false ≡ shares how r
   unfolding shares
-  shares-run e = rw (le-ltb r 4 e) (go (ltb 0 how))
+  shares-run e = rw (le-ltb r EXECUTE e) (go (ltb NOTHING how))
     where
-      go : (b : Bool) → false ≡ (b && false && (ltb r 2 || leb 2 how))
+      go : (b : Bool) → false ≡ (b && false && (ltb r WRITE || leb WRITING how))
       go true = refl
       go false = refl
 
-  pub shares-read : (how ≡ 0 → ⊥) → r < 2 → true ≡ shares how r
+  pub shares-read : (how ≡ NOTHING → ⊥) → r < WRITE → true ≡ shares how r
   unfolding shares
-  shares-read ne k = let p : 0 < how = some-shared ne in let q : r < 4 = omega arith in rw (lt-ltb 0 how p, lt-ltb r 4 q, lt-ltb r 2 k)
+  shares-read ne k = let p : 0 < how = some-shared ne in let q : r < EXECUTE =
+      omega arith in rw (lt-ltb NOTHING how p, lt-ltb r EXECUTE q, lt-ltb r WRITE k)
     where
-      some-shared : (how ≡ 0 → ⊥) → 0 < how
+      some-shared : (how ≡ NOTHING → ⊥) → 0 < how
       some-shared ne = elim (lt? 0 how) [ inl y ↦ y | inr y ↦ absurd (ne (omega arith)) ]
 
-  pub shares-write : (how ≡ 0 → ⊥) → r < 4 → 2 ≤ r → leb 2 how ≡ shares how r
+  pub shares-write : (how ≡ NOTHING → ⊥) → r < EXECUTE → WRITE ≤ r → leb WRITING how ≡ shares how r
   unfolding shares
-  shares-write ne k q = let p : 0 < how = some-shared ne in rw (lt-ltb 0 how p, lt-ltb r 4 k, le-ltb r 2 q)
+  shares-write ne k q = let p : 0 < how = some-shared ne in rw (lt-ltb NOTHING how p, lt-ltb r EXECUTE k, le-ltb r WRITE q)
     where
-      some-shared : (how ≡ 0 → ⊥) → 0 < how
+      some-shared : (how ≡ NOTHING → ⊥) → 0 < how
       some-shared ne = elim (lt? 0 how) [ inl y ↦ y | inr y ↦ absurd (ne (omega arith)) ]
 
-stuck : (b1 b2 b3 b4 b5 b6 : Bool) (s : State) (o : Out) → (refusal (six b1 b2 b3 b4 b5 b6 (done s)) ≡ 0 → ⊥) → six b1 b2 b3 b4 b5 b6 o ≡ refuse (refusal (six b1 b2 b3 b4 b5 b6 (done s)))
+stuck : (b1 b2 b3 b4 b5 b6 : Bool) (s : State) (o : Out) → (refusal (six b1 b2 b3 b4 b5 b6 (done s)) ≡ 0 → ⊥) →
+    six b1 b2 b3 b4 b5 b6 o ≡ refuse (refusal (six b1 b2 b3 b4 b5 b6 (done s)))
 unfolding check
 stuck false b2 b3 b4 b5 b6 s o ne = refl
 stuck true false b3 b4 b5 b6 s o ne = refl
@@ -99,13 +101,14 @@ module _ (s : State) (f g a r : ℕ) where
       let p3 = through (page-address a) 7 _ (omega arith) (p2 .1) in
       let p4 = through (is-rights r) 8 _ (omega arith) (p3 .1) in
       let p5 = through (ltb f (s .size)) 4 _ (omega arith) (p4 .1) in
-      let p6 = through (may-map s g f r) 9 (done s) (omega arith) (p5 .1) in
+      let p6 = through (may-map s f g r) 9 (done s) (omega arith) (p5 .1) in
       record { exists = p1 .0; clean = p2 .0; address = p3 .0; rights = p4 .0; frame = p5 .0; may = p6 .0 }
 
   module _ (pick : ℕ → ℕ) where
     map-refused : (k : ℕ) → k ≡ refusal (asked s f g a r (done s)) → (k ≡ 0 → ⊥) → map s f g a r pick ≡ refuse k
     unfolding map
-    map-refused k e ne = stuck (s .exists g) (not (s .dirty g)) (page-address a) (is-rights r) (ltb f (s .size)) (may-map s g f r) s _ (λ z. ne (e ∙ z)) ∙ ap refuse (sym e)
+    map-refused k e ne = stuck (s .exists g) (not (s .dirty g)) (page-address a) (is-rights r) (ltb f (s .size)) (may-map s f g r) s _
+        (λ z. ne (e ∙ z)) ∙ ap refuse (sym e)
 
     module _ (x : Granted s f g a r) where
       map-10 : mapped s g (a / 4096) ≡ true → map s f g a r pick ≡ refuse 10
@@ -120,26 +123,6 @@ module _ (s : State) (f g a r : ℕ) where
         map-done : leb (missing s g (a / 4096)) (free-frames s) ≡ true → map s f g a r pick ≡ done (with-mapping s f g (a / 4096) r pick)
         unfolding map check
         map-done z = rw (x .exists, x .clean, x .address, x .rights, x .frame, x .may, e, z)
-
--- whether there is an entry at the end of the way
-module _ {m l : List ℕ} (ok : Sound m l) {g v : ℕ} (ex : exists-of l g ≡ true) {h t : ℕ} (way : Ended (state-of m l) g v h t) where
-  there : state-of m l .exists g ≡ true
-  there = unfold state-in in ex
-
-  pub mapped-above : (h ≡ 0 → ⊥) → false ≡ mapped (state-of m l) g v
-  mapped-above ne = sym (ended-above (state-of m l) (ok .core) g v h t there way ne)
-
-  module _ (z : h ≡ 0) (x : ℕ) (e : x ≡ word-of m t (v % 512)) where
-    word-is : x ≡ state-of m l .word t (v % 512)
-    word-is = unfold state-in in e
-
-    pub mapped-not : x ≡ 0 → false ≡ mapped (state-of m l) g v
-    mapped-not y = sym (last-empty (state-of m l) (ok .core) g v t there h way z x word-is y)
-
-    pub mapped-here : (x ≡ 0 → ⊥) → true ≡ mapped (state-of m l) g v
-    mapped-here ne =
-        let y = shows (state-of m l) (ok .core) g t v (last-serves (state-of m l) (ok .core) g v t there h way z) (λ q. ne (word-is ∙ q)) in
-        sym (ap (λ (o : Option Page). is-some o) (translate-at (state-of m l) g v t (y .frame) (y .rights) (last-leaf (state-of m l) (ok .core) g v t there h way z) (y .reads)))
 
 -- the plan
 module _ {m l : List ℕ} (ok : Sound m l) (f g a r k : ℕ) (e : k ≡ refusal (asked (state-of m l) f g a r (done (state-of m l)))) where
@@ -165,12 +148,23 @@ module _ {m l : List ℕ} (ok : Sound m l) (f g a r k : ℕ) (e : k ≡ refusal 
         plan-3 y =
             let w = ended-missing (state-of m l) (ok .core) g (a / 4096) h t way in
             let u = free-is l (ok .ledger-sound) m in
-            map-3 (state-of m l) f g a r (pick-of l) all-granted (sym q ∙ n) (lt-leb (missing (state-of m l) g (a / 4096)) (free-frames (state-of m l)) (omega arith))
+            map-3 (state-of m l) f g a r (pick-of l) all-granted (sym q ∙ n)
+            (lt-leb (missing (state-of m l) g (a / 4096)) (free-frames (state-of m l)) (omega arith))
 
-        pub plan-go : h ≤ c → Ready (state-of m l) f g a r t h
-        plan-go y = let u = free-is l (ok .ledger-sound) m in record { granted = all-granted; ended = way; unmapped = sym q ∙ n; enough = omega arith }
+        pub plan-go : h ≤ c → Ready (state-of m l) f g a r h t
+        plan-go y = let u = free-is l (ok .ledger-sound) m in record
+            { granted = all-granted; ended = way; unmapped = sym q ∙ n; enough = omega arith }
 
-module _ {m₀ l₀ : List ℕ} (ok : Sound m₀ l₀) {f g a r t₀ h₀ : ℕ} (ready : Ready (state-of m₀ l₀) f g a r t₀ h₀) where
+-- what stays while the missing tables are made, from the highest on: m₀ and l₀ are the slices before, h tables are missing below t
+pub record Filling (m₀ l₀ : List ℕ) (f g v : ℕ) (m l : List ℕ) (h t : ℕ) : Type 0 where
+  pub growing : Growing m l g v h t
+  pub grows : grow 3 (state-of m₀ l₀) g (state-of m₀ l₀ .root g) v (pick-of l₀) ≡ grow h (state-of m l) g t v (pick-of l)
+  pub owner : ℕ
+  pub page-is : state-of m l .kind f ≡ page owner
+  pub ram-same : length m ≡ length m₀
+  pub ledger-same : length l ≡ length l₀
+
+module _ {m₀ l₀ : List ℕ} (ok : Sound m₀ l₀) {f g a r h₀ t₀ : ℕ} (ready : Ready (state-of m₀ l₀) f g a r h₀ t₀) where
   a-page : (o : ℕ) × (state-of m₀ l₀ .kind f ≡ page o)
   a-page = go (may-is (state-of m₀ l₀) g f r (ready .granted .may))
     where
@@ -196,7 +190,8 @@ module _ {m₀ l₀ : List ℕ} (ok : Sound m₀ l₀) {f g a r t₀ h₀ : ℕ}
   }
 
   module _ {m l : List ℕ} {h t : ℕ} (x : Filling m₀ l₀ f g (a / 4096) m l h t) where
-    pub fill-more : {u : ℕ} {m′ l′ : List ℕ} → Made m l g (a / 4096) h t u m′ l′ → length m′ ≡ length m → length l′ ≡ length l → Filling m₀ l₀ f g (a / 4096) m′ l′ (h - 1) u
+    pub fill-more : {u : ℕ} {m′ l′ : List ℕ} → Made m l g (a / 4096) h t u m′ l′ → length m′ ≡ length m → length l′ ≡ length l →
+        Filling m₀ l₀ f g (a / 4096) m′ l′ (h - 1) u
     fill-more y e q = record {
       growing = y .growing;
       grows = x .grows ∙ y .grows;
@@ -209,19 +204,22 @@ module _ {m₀ l₀ : List ℕ} (ok : Sound m₀ l₀) {f g a r t₀ h₀ : ℕ}
     pub fill-low : f < size-of l
     fill-low = unfold state-in in low (state-of m l) (x .growing .sound .core) f (page (x .owner)) (x .page-is) refl
 
-    pub fill-count : (k : ℕ) → k ≡ count-of l f g → k + 1 < 2 ^ 30
+    pub fill-count : (k : ℕ) → k ≡ count-of l f g → k + 1 < SHARE-UNIT
     fill-count k e =
         let p : kind-of l f ≡ page (x .owner) = unfold state-in in x .page-is in
         let fits = count-fits m l (x .growing .sound) f (x .owner) g p in
         omega arith
 
-    pub map-end : h ≤ 0 → (first y k : ℕ) (m′ l′ : List ℕ) → first ≡ first-of l → y ≡ page-entry first f r → word-of m′ ≡ upd2 (word-of m) t (a / 4096 % 512) y → length m′ ≡ length m →
+    pub map-end : h ≤ 0 → (first y k : ℕ) (m′ l′ : List ℕ) → first ≡ first-of l → y ≡ page-entry first f r →
+        word-of m′ ≡ upd2 (word-of m) t (a / 4096 % 512) y → length m′ ≡ length m →
         k ≡ count-of l f g → Changed (with-count f g (k + 1)) l l′ → Done (mapping f g a r) m₀ l₀ m′ l′
     map-end z first y k m′ l′ ef ey ew len ek c = record {
       sound = record {
         ledger-sound = c .ledger-sound;
         ram-fits = let a = x .growing .sound .ram-fits in let b = size-is in omega arith;
-        core = then-is (map (state-of m₀ l₀) f g a r (pick-of l₀)) (state-of m′ l′) (core-alone (state-of m₀ l₀) (map (state-of m₀ l₀) f g a r (pick-of l₀)) (λ k q. map-good (state-of m₀ l₀) (ok .core) k q f g a r (pick-of l₀) (chosen l₀ (ok .ledger-sound) m₀))) made;
+        core = then-is (map (state-of m₀ l₀) f g a r (pick-of l₀)) (state-of m′ l′)
+            (core-alone (state-of m₀ l₀) (map (state-of m₀ l₀) f g a r (pick-of l₀))
+            (λ k q. map-good (state-of m₀ l₀) (ok .core) k q f g a r (pick-of l₀) (chosen l₀ (ok .ledger-sound) m₀))) made;
       };
       made = made;
     }
@@ -232,13 +230,17 @@ module _ {m₀ l₀ : List ℕ} (ok : Sound m₀ l₀) {f g a r t₀ h₀ : ℕ}
         more : k + 1 ≡ suc (state-of m l .count f g)
         more = let q : k ≡ state-of m l .count f g = unfold state-in in ek in omega arith
 
-        same : with-count f g (suc (state-of m l .count f g)) (with-words (upd2 (word-of m) t (a / 4096 % 512) (page-entry (first-of l) f r)) (state-of m l)) ≡ with-page (state-of m l) t (a / 4096 % 512) f r g
+        same : with-count f g (suc (state-of m l .count f g))
+            (with-words (upd2 (word-of m) t (a / 4096 % 512) (page-entry (first-of l) f r)) (state-of m l)) ≡
+            with-page (state-of m l) t (a / 4096 % 512) f r g
         same = unfold with-count with-words remade with-page state-in in refl
 
         state : state-of m′ l′ ≡ with-page (state-of m l) t (a / 4096 % 512) f r g
         state =
-            c .state m′ ∙ ap (with-count f g (k + 1)) (state-words m m′ l (upd2 (word-of m) t (a / 4096 % 512) (page-entry (first-of l) f r)) words)
-            ∙ ap (λ (b : ℕ). with-count f g b (with-words (upd2 (word-of m) t (a / 4096 % 512) (page-entry (first-of l) f r)) (state-of m l))) more ∙ same
+            c .state m′ ∙ ap (with-count f g (k + 1)) (state-words m m′ l
+            (upd2 (word-of m) t (a / 4096 % 512) (page-entry (first-of l) f r)) words)
+            ∙ ap (λ (b : ℕ). with-count f g b (with-words (upd2 (word-of m) t (a / 4096 % 512) (page-entry (first-of l) f r))
+            (state-of m l))) more ∙ same
 
         size-is : size-of l′ ≡ size-of l
         size-is = unfold state-in with-page in ap (λ (b : State). b .size) state
@@ -266,14 +268,18 @@ module _ {m l m′ l′ : List ℕ} (ok : Sound m l) where
   module _ (f g a r : ℕ) (d : Done (mapping f g a r) m l m′ l′) where
     pub map-effect : Translates (Map f g a r (pick-of l)) m l m′ l′
     unfolding answer
-    map-effect = then-is (answer (state-of m l) (Map f g a r (pick-of l))) (state-of m′ l′) (rows (state-of m l) (ok .core) (Map f g a r (pick-of l)) (chosen l (ok .ledger-sound) m)) (d .made)
+    map-effect = then-is (answer (state-of m l) (Map f g a r (pick-of l))) (state-of m′ l′)
+        (rows (state-of m l) (ok .core) (Map f g a r (pick-of l)) (chosen l (ok .ledger-sound) m)) (d .made)
 
     pub map-found : Finds g a (some (f, r)) m′ l′
-    map-found = finds-asked m′ l′ (d .sound) g a (some (f, r)) (after-map (state-of m l) (ok .core) f g a r (pick-of l) (chosen l (ok .ledger-sound) m) (state-of m′ l′) (d .made))
+    map-found = finds-asked m′ l′ (d .sound) g a (some (f, r))
+        (after-map (state-of m l) (ok .core) f g a r (pick-of l) (chosen l (ok .ledger-sound) m) (state-of m′ l′) (d .made))
 
 pub map-nonzero : (s : State) (f g a r : ℕ) (pick : ℕ → ℕ) → Nonzero (map s f g a r pick)
 unfolding map
 map-nonzero s f g a r pick =
-    tested (s .exists g) 5 _ (omega arith) (tested (not (s .dirty g)) 14 _ (omega arith) (tested (page-address a) 7 _ (omega arith) (tested (is-rights r) 8 _ (omega arith)
-    (tested (ltb f (s .size)) 4 _ (omega arith) (tested (may-map s g f r) 9 _ (omega arith) (tested (not (mapped s g (a / 4096))) 10 _ (omega arith)
+    tested (s .exists g) 5 _ (omega arith) (tested (not (s .dirty g)) 14 _ (omega arith)
+    (tested (page-address a) 7 _ (omega arith) (tested (is-rights r) 8 _ (omega arith)
+    (tested (ltb f (s .size)) 4 _ (omega arith) (tested (may-map s f g r) 9 _ (omega arith)
+    (tested (not (mapped s g (a / 4096))) 10 _ (omega arith)
     (tested (leb (missing s g (a / 4096)) (free-frames s)) 3 _ (omega arith) (was-done _))))))))

@@ -40,25 +40,29 @@ has-rights-requires c κs = search needs
 
 returns-4 : tie.Need-returns-4
 unfolding state-in may-map
-returns-4 c = (goes-on _ 5 _ (sym (c .before .before .before .before .before .before .before .exists .ensures) ∙ not-false _ (c .before .before .before .before .before .before .if1 .left))) ((goes-on _ 14 _ (ap not (sym (c .before .before .before .before .before .dirty .ensures) ∙ c .before .before .before .before .if2 .left))) ((goes-on _ 7 _ (sym (c .before .before .before .is-page-address .ensures) ∙ not-false _ (c .before .before .if3 .left))) (stops _ 8 _ (sym (c .before .has-rights .ensures) ∙ not-true _ (c .if4 .taken)))))
+returns-4 c = (goes-on _ 5 _ (sym (c .before .before .before .before .before .before .before .exists .ensures) ∙ not-false _ (c .before .before .before .before .before .before .if1 .left))) ((goes-on _ 14 _ (ap not (sym (c .before .before .before .before .before .dirty .ensures) ∙ c .before .before .before .before .if2 .left))) ((goes-on _ 7 _ (sym (c .before .before .before .is-page-address .ensures) ∙ not-false _ (c .before .before .if3 .left)))
+    (stops _ 8 _ (sym (c .before .has-rights .ensures) ∙ not-true _ (c .if4 .taken)))))
 
 size-requires : tie.Need-size-requires
 size-requires c κs = c .before .before .before .before .before .before .before .before .before .before .pre .ledger-sound
 
 returns-5 : tie.Need-returns-5
 unfolding state-in may-map
-returns-5 c = (goes-on _ 5 _ (sym (c .before .before .before .before .before .before .before .before .before .exists .ensures) ∙ not-false _ (c .before .before .before .before .before .before .before .before .if1 .left))) ((goes-on _ 14 _ (ap not (sym (c .before .before .before .before .before .before .before .dirty .ensures) ∙ c .before .before .before .before .before .before .if2 .left))) ((goes-on _ 7 _ (sym (c .before .before .before .before .before .is-page-address .ensures) ∙ not-false _ (c .before .before .before .before .if3 .left))) ((goes-on _ 8 _ (sym (c .before .before .before .has-rights .ensures) ∙ not-false _ (c .before .before .if4 .left))) (stops _ 4 _ (le-ltb (c .before .before .before .before .before .before .before .before .before .before .before .before .args .f) (size-of (c .before .before .before .before .before .before .before .before .before .before .before .before .args .ledger .now)) (omega (arith, c .before .size .ensures .0, c .if5 .taken)))))))
+returns-5 c = (goes-on _ 5 _ (sym (c .before .before .before .before .before .before .before .before .before .exists .ensures) ∙ not-false _ (c .before .before .before .before .before .before .before .before .if1 .left))) ((goes-on _ 14 _ (ap not (sym (c .before .before .before .before .before .before .before .dirty .ensures) ∙ c .before .before .before .before .before .before .if2 .left))) ((goes-on _ 7 _ (sym (c .before .before .before .before .before .is-page-address .ensures) ∙ not-false _ (c .before .before .before .before .if3 .left))) ((goes-on _ 8 _ (sym (c .before .before .before .has-rights .ensures) ∙ not-false _ (c .before .before .if4 .left))) (stops _ 4 _ (le-ltb (c .before .before .before .before .before .before .before .before .before .before .before .before .args .f) (size-of (c .before .before .before .before .before .before .before .before .before .before .before .before .args .ledger .now))
+    (omega (arith, c .before .size .ensures .0, c .if5 .taken)))))))
 
 may-map-requires : tie.Need-may-map-requires
 may-map-requires c κs = (c .before .before .before .before .before .before .before .before .before .before .before .before .pre .ledger-sound, ((omega (arith, c .before .size .ensures .0, c .if5 .left)), (guest-there (c .before .before .before .before .before .before .before .before .before .before .before .before .args .ram .now) (c .before .before .before .before .before .before .before .before .before .before .before .before .args .ledger .now) (c .before .before .before .before .before .before .before .before .before .before .before .before .pre) (c .before .before .before .before .before .before .before .before .before .before .before .before .args .g) (sym (c .before .before .before .before .before .before .before .before .before .exists .ensures) ∙ not-false _ (c .before .before .before .before .before .before .before .before .if1 .left)))))
 
 returns-6 : tie.Need-returns-6
 unfolding state-in may-map
-returns-6 c = (goes-on _ 5 _ (sym (c .before .before .before .before .before .before .before .before .before .before .before .exists .ensures) ∙ not-false _ (c .before .before .before .before .before .before .before .before .before .before .if1 .left))) ((goes-on _ 14 _ (ap not (sym (c .before .before .before .before .before .before .before .before .before .dirty .ensures) ∙ c .before .before .before .before .before .before .before .before .if2 .left))) ((goes-on _ 7 _ (sym (c .before .before .before .before .before .before .before .is-page-address .ensures) ∙ not-false _ (c .before .before .before .before .before .before .if3 .left))) ((goes-on _ 8 _ (sym (c .before .before .before .before .before .has-rights .ensures) ∙ not-false _ (c .before .before .before .before .if4 .left))) ((goes-on _ 4 _ (lt-ltb (c .before .before .before .before .before .before .before .before .before .before .before .before .before .before .args .f) (size-of (c .before .before .before .before .before .before .before .before .before .before .before .before .before .before .args .ledger .now)) ((omega (arith, c .before .before .before .size .ensures .0, c .before .before .if5 .left))))) (stops _ 9 _ (sym (c .before .may-map .ensures) ∙ not-true _ (c .if6 .taken)))))))
+returns-6 c = (goes-on _ 5 _ (sym (c .before .before .before .before .before .before .before .before .before .before .before .exists .ensures) ∙ not-false _ (c .before .before .before .before .before .before .before .before .before .before .if1 .left))) ((goes-on _ 14 _ (ap not (sym (c .before .before .before .before .before .before .before .before .before .dirty .ensures) ∙ c .before .before .before .before .before .before .before .before .if2 .left))) ((goes-on _ 7 _ (sym (c .before .before .before .before .before .before .before .is-page-address .ensures) ∙ not-false _ (c .before .before .before .before .before .before .if3 .left)))
+    ((goes-on _ 8 _ (sym (c .before .before .before .before .before .has-rights .ensures) ∙ not-false _ (c .before .before .before .before .if4 .left))) ((goes-on _ 4 _ (lt-ltb (c .before .before .before .before .before .before .before .before .before .before .before .before .before .before .args .f) (size-of (c .before .before .before .before .before .before .before .before .before .before .before .before .before .before .args .ledger .now)) ((omega (arith, c .before .before .before .size .ensures .0, c .before .before .if5 .left))))) (stops _ 9 _ (sym (c .before .may-map .ensures) ∙ not-true _ (c .if6 .taken)))))))
 
 returns-7 : tie.Need-returns-7
 unfolding state-in may-map
-returns-7 c = (goes-on _ 5 _ (sym (c .before .before .before .before .before .before .before .before .before .before .before .exists .ensures) ∙ not-false _ (c .before .before .before .before .before .before .before .before .before .before .if1 .left))) ((goes-on _ 14 _ (ap not (sym (c .before .before .before .before .before .before .before .before .before .dirty .ensures) ∙ c .before .before .before .before .before .before .before .before .if2 .left))) ((goes-on _ 7 _ (sym (c .before .before .before .before .before .before .before .is-page-address .ensures) ∙ not-false _ (c .before .before .before .before .before .before .if3 .left))) ((goes-on _ 8 _ (sym (c .before .before .before .before .before .has-rights .ensures) ∙ not-false _ (c .before .before .before .before .if4 .left))) ((goes-on _ 4 _ (lt-ltb (c .before .before .before .before .before .before .before .before .before .before .before .before .before .before .args .f) (size-of (c .before .before .before .before .before .before .before .before .before .before .before .before .before .before .args .ledger .now)) ((omega (arith, c .before .before .before .size .ensures .0, c .before .before .if5 .left))))) (goes-on _ 9 _ (sym (c .before .may-map .ensures) ∙ not-false _ (c .if6 .left)) refl)))))
+returns-7 c = (goes-on _ 5 _ (sym (c .before .before .before .before .before .before .before .before .before .before .before .exists .ensures) ∙ not-false _ (c .before .before .before .before .before .before .before .before .before .before .if1 .left))) ((goes-on _ 14 _ (ap not (sym (c .before .before .before .before .before .before .before .before .before .dirty .ensures) ∙ c .before .before .before .before .before .before .before .before .if2 .left))) ((goes-on _ 7 _ (sym (c .before .before .before .before .before .before .before .is-page-address .ensures) ∙ not-false _ (c .before .before .before .before .before .before .if3 .left)))
+    ((goes-on _ 8 _ (sym (c .before .before .before .before .before .has-rights .ensures) ∙ not-false _ (c .before .before .before .before .if4 .left))) ((goes-on _ 4 _ (lt-ltb (c .before .before .before .before .before .before .before .before .before .before .before .before .before .before .args .f) (size-of (c .before .before .before .before .before .before .before .before .before .before .before .before .before .before .args .ledger .now)) ((omega (arith, c .before .before .before .size .ensures .0, c .before .before .if5 .left))))) (goes-on _ 9 _ (sym (c .before .may-map .ensures) ∙ not-false _ (c .if6 .left)) refl)))))
 
 pub check-map-spec : {M : Type 1} → statement M
 check-map-spec =

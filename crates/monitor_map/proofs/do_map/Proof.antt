@@ -2,18 +2,17 @@
 -- The missing tables are made, from the highest on; then the entry is written and the place counted.
 use Prim.Native.Nat.{_/_}
 use Rattle.monitor_tables.proofs.Laws.NewTable.{grow-guest, grow-words, grow-room}
-use Rattle.monitor_map.specs.Map.{Filling}
-use Rattle.monitor_map.proofs.Laws.Map.{fill-start, fill-more, fill-low, fill-count, map-end}
+use Rattle.monitor_map.proofs.Laws.Map.{Filling, fill-start, fill-more, fill-low, fill-count, map-end}
 use borrow.Author.Needs.{needs}
 use native.Mathlib.Omega.{arith}
 use Rattle.monitor_map.proofs.do_map.Statement.{statement}
 use Rattle.monitor_map.proofs.do_map.Tie as tie
 
 abbrev Inv-loop : tie.InvT-loop
-Inv-loop ram₀ ledger₀ f g a r t h table₀ height₀ ram ledger table height = Filling ram₀ ledger₀ f g (a / 4096) ram ledger height table
+Inv-loop ram₀ ledger₀ f g a r h t table₀ height₀ ram ledger table height = Filling ram₀ ledger₀ f g (a / 4096) ram ledger height table
 
 abbrev μ-loop : tie.MeasureT-loop
-μ-loop ram₀ ledger₀ f g a r t h table₀ height₀ ram ledger table height = height
+μ-loop ram₀ ledger₀ f g a r h t table₀ height₀ ram ledger table height = height
 
 loop-holds : tie.Need-loop-holds Inv-loop μ-loop
 loop-holds c = fill-start (c .before .before .pre .0) (c .before .before .pre .1)
@@ -28,13 +27,14 @@ loop-less : tie.Need-loop-less Inv-loop μ-loop
 loop-less c = omega arith
 
 loop-again : tie.Need-loop-again Inv-loop μ-loop
-loop-again c = fill-more (c .before .before .before .before .before .before .before .before .before .before .before .pre .0) (c .before .before .before .before .before .before .before .before .before .before .before .pre .1) (c .before .before .before .before .before .before .before .before .loop .inv) (c .before .before .before .before .make-table .ensures) (omega (arith, c .before .before .before .before .make-table .kept)) (omega (arith, c .before .before .before .before .make-table .kept))
+loop-again c = fill-more (c .before .before .before .before .before .before .before .before .before .before .before .pre .0) (c .before .before .before .before .before .before .before .before .before .before .before .pre .1) (c .before .before .before .before .before .before .before .before .loop .inv) (c .before .before .before .before .make-table .ensures) (omega (arith, c .before .before .before .before .make-table .kept))
+    (omega (arith, c .before .before .before .before .make-table .kept))
 
 first-requires : tie.Need-first-requires Inv-loop μ-loop
 first-requires c κs = c .before .before .loop .inv .growing .sound .ledger-sound
 
-entry-of-page-requires : tie.Need-entry-of-page-requires Inv-loop μ-loop
-entry-of-page-requires c κs = grow-room (c .before .before .before .loop .inv .growing) (c .first .result) (c .before .before .before .before .before .before .args .f) (c .first .ensures) (fill-low (c .before .before .before .before .before .before .pre .0) (c .before .before .before .before .before .before .pre .1) (c .before .before .before .loop .inv))
+of-page-requires : tie.Need-of-page-requires Inv-loop μ-loop
+of-page-requires c κs = grow-room (c .before .before .before .loop .inv .growing) (c .first .result) (c .before .before .before .before .before .before .args .f) (c .first .ensures) (fill-low (c .before .before .before .before .before .before .pre .0) (c .before .before .before .before .before .before .pre .1) (c .before .before .before .loop .inv))
 
 store-entry-requires : tie.Need-store-entry-requires Inv-loop μ-loop
 store-entry-requires c κs = let k = grow-words (c .before .before .before .before .before .loop .inv .growing) in
@@ -56,7 +56,8 @@ same-length-2 : tie.Need-same-length-2 Inv-loop μ-loop
 same-length-2 c = omega (arith, c .before .before .before .before .before .before .before .before .store-entry .kept, c .before .before .set-count .kept, c .before .before .before .before .before .before .before .before .before .before .before .before .before .before .loop .inv .ram-same, c .before .before .before .before .before .before .before .before .before .before .before .before .before .before .loop .inv .ledger-same)
 
 returns : tie.Need-returns Inv-loop μ-loop
-returns c = map-end (c .before .before .before .before .before .before .before .before .before .before .before .before .before .before .before .before .before .pre .0) (c .before .before .before .before .before .before .before .before .before .before .before .before .before .before .before .before .before .pre .1) (c .before .before .before .before .before .before .before .before .before .before .before .before .before .before .loop .inv) (c .before .before .before .before .before .before .before .before .before .before .before .before .before .loop-test .left) (c .before .before .before .before .before .before .before .before .before .before .before .first .result) (c .before .before .before .before .before .before .before .before .before .before .entry-of-page .result) (c .before .before .before .before .count .result) _ _ (c .before .before .before .before .before .before .before .before .before .before .before .first .ensures) (c .before .before .before .before .before .before .before .before .before .before .entry-of-page .ensures) (c .before .before .before .before .before .before .before .before .store-entry .ensures) (omega (arith, c .before .before .before .before .before .before .before .before .store-entry .kept))
+returns c = map-end (c .before .before .before .before .before .before .before .before .before .before .before .before .before .before .before .before .before .pre .0) (c .before .before .before .before .before .before .before .before .before .before .before .before .before .before .before .before .before .pre .1) (c .before .before .before .before .before .before .before .before .before .before .before .before .before .before .loop .inv) (c .before .before .before .before .before .before .before .before .before .before .before .before .before .loop-test .left) (c .before .before .before .before .before .before .before .before .before .before .before .first .result) (c .before .before .before .before .before .before .before .before .before .before .of-page .result) (c .before .before .before .before .count .result) _ _
+    (c .before .before .before .before .before .before .before .before .before .before .before .first .ensures) (c .before .before .before .before .before .before .before .before .before .before .of-page .ensures) (c .before .before .before .before .before .before .before .before .store-entry .ensures) (omega (arith, c .before .before .before .before .before .before .before .before .store-entry .kept))
     (c .before .before .before .before .count .ensures) (c .before .before .set-count .ensures)
 
 pub do-map-spec : {M : Type 1} → statement M
@@ -71,7 +72,7 @@ do-map-spec =
     loop-less
     loop-again
     first-requires
-    entry-of-page-requires
+    of-page-requires
     store-entry-requires
     count-requires
     add-set-count

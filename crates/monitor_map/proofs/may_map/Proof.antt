@@ -18,7 +18,8 @@ is-page-requires : tie.Need-is-page-requires
 is-page-requires c κs = (c .before .before .before .pre .0, c .before .before .before .pre .1 .0)
 
 returns-2 : tie.Need-returns-2
-returns-2 c = allows-none (c .before .before .before .before .before .args .ledger .now) (c .before .before .before .before .before .args .f) (c .before .before .before .before .before .args .g) (c .before .before .before .before .before .args .r) (sym (c .before .before .before .is-page-of .ensures) ∙ c .before .before .if1 .left) (sym (c .before .is-page .ensures) ∙ not-true _ (c .if2 .taken))
+returns-2 c = allows-none (c .before .before .before .before .before .args .ledger .now) (c .before .before .before .before .before .args .f) (c .before .before .before .before .before .args .g) (c .before .before .before .before .before .args .r) (sym (c .before .before .before .is-page-of .ensures) ∙ c .before .before .if1 .left)
+    (sym (c .before .is-page .ensures) ∙ not-true _ (c .if2 .taken))
 
 share-requires : tie.Need-share-requires
 share-requires c κs = (c .before .before .before .before .before .pre .0, (c .before .before .before .before .before .pre .1 .0, c .before .before .before .before .before .pre .1 .1))
@@ -27,7 +28,8 @@ shares-requires : tie.Need-shares-requires
 shares-requires c κs = search needs
 
 returns-3 : tie.Need-returns-3
-returns-3 c = allows-shared (c .before .before .before .before .before .before .before .args .ledger .now) (c .before .before .before .before .before .before .before .args .f) (c .before .before .before .before .before .before .before .args .g) (c .before .before .before .before .before .before .before .args .r) (sym (c .before .before .before .before .before .is-page-of .ensures) ∙ c .before .before .before .before .if1 .left) (sym (c .before .before .before .is-page .ensures) ∙ not-false _ (c .before .before .if2 .left)) (c .before .share .result) (c .before .share .ensures)
+returns-3 c = allows-shared (c .before .before .before .before .before .before .before .args .ledger .now) (c .before .before .before .before .before .before .before .args .f) (c .before .before .before .before .before .before .before .args .g) (c .before .before .before .before .before .before .before .args .r) (sym (c .before .before .before .before .before .is-page-of .ensures) ∙ c .before .before .before .before .if1 .left)
+    (sym (c .before .before .before .is-page .ensures) ∙ not-false _ (c .before .before .if2 .left)) (c .before .share .result) (c .before .share .ensures)
     (c .shares .result) (c .shares .ensures)
 
 pub may-map-spec : {M : Type 1} → statement M

@@ -1,9 +1,10 @@
 -- Laws of specs/Questions.
 use mathlib.Core.Path.{_≡_, refl, sym, ap, _∙_}
-use mathlib.Core.Bool.{true}
+use mathlib.Core.Bool.{true, cond}
 use mathlib.Core.List.{List}
 use Prim.Native.Nat.{ℕ, _+_, _*_, _<_, _≤_, _^_}
 use native.Mathlib.Omega.{arith}
+use lib.Dec.{eqb}
 use borrow.Author.Tests.{lt-ltb}
 use Rattle.memory.specs.Ram.{fewest-frames, most-frames}
 use Rattle.memory.specs.Word.{word-at}
@@ -11,28 +12,39 @@ use Rattle.model.specs.State.{Frame-kind, monitor, free, table, draining-table,
 use Rattle.model.specs.Cache.{Access}
 use Rattle.model.specs.Bytes.{Image, access, answers}
 use Rattle.model.proofs.Invariant.Core.{in-room}
-use Rattle.model.specs.State.{sort}
+use Rattle.model.specs.State.{kind-number, MONITOR, FREE, TABLE, PAGE}
 use Rattle.model.proofs.Invariant.Bridge.{answer-says}
 use Rattle.ledger.specs.Layout.{size-of, first-of, root-of, exists-of, kind-of, count-of, state-in, state-of}
 use Rattle.ledger.specs.Kinds.{guest-in}
 use Rattle.ledger.proofs.Laws.Words.{word-is}
 use Rattle.ledger.specs.Sound.{Sound}
 use Rattle.monitor_query.specs.declared.FrameKind.{FrameKind}
-use Rattle.monitor_query.specs.Questions.{kind-told, frame-told, translated, by-number}
+use Rattle.monitor_query.specs.declared.FrameKind.the-variants.{Monitor, Free, Table, Draining, Page}
+use Rattle.monitor_query.specs.Questions.{kind-told, frame-told, translated}
 
-by-sort : (x : Frame-kind) (n : ℕ) → by-number (sort x) (guest-in x) n ≡ kind-told x n
+-- by the numbers of what a frame is, as the code asks
+unfoldable pub by-number : (k g n : ℕ) → FrameKind
+by-number k g n =
+    cond (eqb k MONITOR) Monitor (
+    cond (eqb k FREE) Free (
+    cond (eqb k TABLE) (Table g) (
+    cond (eqb k PAGE) (Page g n) (
+    Draining g))))
+
+by-kind : (x : Frame-kind) (n : ℕ) → by-number (kind-number x) (guest-in x) n ≡ kind-told x n
 unfolding by-number
-by-sort monitor n = refl
-by-sort free n = refl
-by-sort (table g h p) n = refl
-by-sort (draining-table g h p) n = refl
-by-sort (page g) n = refl
-by-sort (draining-page g) n = refl
+by-kind monitor n = refl
+by-kind free n = refl
+by-kind (table g h p) n = refl
+by-kind (draining-table g h p) n = refl
+by-kind (page g) n = refl
+by-kind (draining-page g) n = refl
 
-pub frame-here : (m l : List ℕ) (f k g : ℕ) (x : FrameKind) → f < size-of l → k ≡ sort (kind-of l f) → g ≡ guest-in (kind-of l f) → x ≡ by-number k g (total (count-of l f)) →
+pub frame-here : (m l : List ℕ) (f k g : ℕ) (x : FrameKind) → f < size-of l → k ≡ kind-number (kind-of l f) → g ≡ guest-in (kind-of l f) →
+    x ≡ by-number k g (total (count-of l f)) →
     x ≡ frame-told (state-of m l) f
 unfolding frame-told state-in
-frame-here m l f k g x low a b e = e ∙ rw (a, b, lt-ltb f (size-of l) low) (by-sort (kind-of l f) (total (count-of l f)))
+frame-here m l f k g x low a b e = e ∙ rw (a, b, lt-ltb f (size-of l) low) (by-kind (kind-of l f) (total (count-of l f)))
 
 module _ (m l : List ℕ) (ok : Sound m l) where
   pub root-room : (g : ℕ) → exists-of l g ≡ true → first-of l + root-of l g < page-count

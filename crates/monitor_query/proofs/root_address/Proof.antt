@@ -11,7 +11,11 @@ first-requires : tie.Need-first-requires
 first-requires c κs = c .before .before .pre .0 .ledger-sound
 
 root-requires : tie.Need-root-requires
-root-requires c κs = (c .before .before .before .pre .0 .ledger-sound, guest-low (c .before .before .before .args .g) (guest-there (c .before .before .before .args .ram .now) (c .before .before .before .args .ledger .now) (c .before .before .before .pre .0) (c .before .before .before .args .g) (c .before .before .before .pre .1)) .1)
+root-requires c κs = (
+  c .before .before .before .pre .0 .ledger-sound,
+  guest-low (c .before .before .before .args .g)
+      (guest-there (c .before .before .before .args .ram .now) (c .before .before .before .args .ledger .now) (c .before .before .before .pre .0) (c .before .before .before .args .g) (c .before .before .before .pre .1)) .1,
+)
 
 add-result : tie.Need-add-result
 add-result c = omega (arith, (root-room (c .before .before .before .before .args .ram .now) (c .before .before .before .before .args .ledger .now) (c .before .before .before .before .pre .0) (c .before .before .before .before .args .g) (c .before .before .before .before .pre .1)), c .before .first .ensures, c .root .ensures)

@@ -28,7 +28,12 @@ stage2-requires c κs = search needs
 
 returns : tie.Need-returns
 unfolding translated
-returns c = rw (sym (c .before .before .before .before .before .exists .ensures) ∙ c .before .before .before .before .if1 .taken, sym (c .before .before .before .size .ensures .0), sym (c .before .root-address .ensures), sym (c .before .before .first .ensures)) (c .stage2 .ensures)
+returns c = rw (
+  sym (c .before .before .before .before .before .exists .ensures) ∙ c .before .before .before .before .if1 .taken,
+  sym (c .before .before .before .size .ensures .0),
+  sym (c .before .root-address .ensures),
+  sym (c .before .before .first .ensures),
+) (c .stage2 .ensures)
 
 returns-2 : tie.Need-returns-2
 unfolding translated

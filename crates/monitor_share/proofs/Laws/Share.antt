@@ -64,7 +64,8 @@ module _ {m l : List ℕ} (ok : Sound m l) (g f h : ℕ) where
     there = guest-there m l ok h (and-true (exists-of l g) (exists-of l h) a .1);
   }
 
-  shared-end : (o : Operation) (how : ℕ) (l′ : List ℕ) → ((k : Caches) → Kept (state-of m l) k → Good k (out o m l)) → Owned l f g h → out o m l ≡ done (after how) →
+  shared-end : (o : Operation) (how : ℕ) (l′ : List ℕ) → ((k : Caches) → Kept (state-of m l) k → Good k (out o m l)) → Owned l f g h →
+      out o m l ≡ done (after how) →
       Changed (with-share f h how) l l′ → Done o m l m l′
   shared-end o how l′ good x e c = changed-so o (after how) ok good e c same (unfold becomes in refl)
     where
@@ -72,7 +73,8 @@ module _ {m l : List ℕ} (ok : Sound m l) (g f h : ℕ) where
       stays = sym (upd-self (kind-of l) f) ∙ ap (upd (kind-of l) f) (x .its-page)
 
       same : with-share f h how (state-of m l) ≡ after how
-      same = unfold with-share remade becomes state-in in ap (λ (K : ℕ → Frame-kind). remade (state-of m l) K (upd2 (shared-of l) f h how) (count-of l) (exists-of l) (root-of l) (dirty-of l) (word-of m)) stays
+      same = unfold with-share remade becomes state-in in ap (λ (K : ℕ → Frame-kind). remade (state-of m l) K (upd2 (shared-of l) f h how)
+          (count-of l) (exists-of l) (root-of l) (dirty-of l) (word-of m)) stays
 
   module _ (w : ℕ) (r : refusal (share (state-of m l) g f h w) ≡ 0) where
     share-passed : Owned l f g h × (share (state-of m l) g f h w ≡ done (after (extent w)))
@@ -90,7 +92,8 @@ module _ {m l : List ℕ} (ok : Sound m l) (g f h : ℕ) where
     share-owned = share-passed .0
 
     pub share-end : (how : ℕ) (l′ : List ℕ) → how ≡ extent w → Changed (with-share f h how) l l′ → Done (sharing g f h w) m l m l′
-    share-end how l′ e c = shared-end (sharing g f h w) how l′ (λ k q. share-good (state-of m l) (ok .core) k q g f h w) share-owned (share-passed .1 ∙ ap (λ (x : ℕ). done (after x)) (sym e)) c
+    share-end how l′ e c = shared-end (sharing g f h w) how l′ (λ k q. share-good (state-of m l) (ok .core) k q g f h w) share-owned
+        (share-passed .1 ∙ ap (λ (x : ℕ). done (after x)) (sym e)) c
 
   module _ (r : refusal (unshare (state-of m l) g f h) ≡ 0) where
     unshare-passed : Owned l f g h × (unshare (state-of m l) g f h ≡ done (after 0))
@@ -107,4 +110,5 @@ module _ {m l : List ℕ} (ok : Sound m l) (g f h : ℕ) where
     unshare-owned = unshare-passed .0
 
     pub unshare-end : (l′ : List ℕ) → Changed (with-share f h 0) l l′ → Done (unsharing g f h) m l m l′
-    unshare-end l′ c = shared-end (unsharing g f h) 0 l′ (λ k q. unshare-good (state-of m l) (ok .core) k q g f h) unshare-owned (unshare-passed .1) c
+    unshare-end l′ c = shared-end (unsharing g f h) 0 l′ (λ k q. unshare-good (state-of m l) (ok .core) k q g f h) unshare-owned
+        (unshare-passed .1) c

@@ -26,7 +26,8 @@ exists-requires-2 c κs = c .before .before .before .before .pre .ledger-sound
 
 returns-2 : tie.Need-returns-2
 unfolding share state-in
-returns-2 c = stops _ 5 _ (and-right (exists-of (c .before .before .before .before .before .before .args .ledger .now) (c .before .before .before .before .before .before .args .g)) _ (sym (c .before .exists2 .ensures) ∙ not-true _ (c .if2 .taken)))
+returns-2 c = stops _ 5 _ (and-right (exists-of (c .before .before .before .before .before .before .args .ledger .now) (c .before .before .before .before .before .before .args .g)) _
+    (sym (c .before .exists2 .ensures) ∙ not-true _ (c .if2 .taken)))
 
 returns-3 : tie.Need-returns-3
 unfolding share state-in
@@ -37,7 +38,8 @@ size-requires c κs = c .before .before .before .before .before .before .before 
 
 returns-4 : tie.Need-returns-4
 unfolding share state-in
-returns-4 c = (goes-on _ 5 _ (and-both _ _ (sym (c .before .before .before .before .before .before .exists .ensures) ∙ not-false _ (c .before .before .before .before .before .if1 .left)) ((sym (c .before .before .before .before .exists2 .ensures) ∙ not-false _ (c .before .before .before .if2 .left))))) ((goes-on _ 12 _ (ap not (ne-eqb (c .before .before .before .before .before .before .before .before .before .args .g) (c .before .before .before .before .before .before .before .before .before .args .h) (c .before .before .if3 .left)))) (stops _ 4 _ (le-ltb (c .before .before .before .before .before .before .before .before .before .args .f) (size-of (c .before .before .before .before .before .before .before .before .before .args .ledger .now)) (omega (arith, c .before .size .ensures .0, c .if4 .taken)))))
+returns-4 c = (goes-on _ 5 _ (and-both _ _ (sym (c .before .before .before .before .before .before .exists .ensures) ∙ not-false _ (c .before .before .before .before .before .if1 .left)) ((sym (c .before .before .before .before .exists2 .ensures) ∙ not-false _ (c .before .before .before .if2 .left))))) ((goes-on _ 12 _ (ap not (ne-eqb (c .before .before .before .before .before .before .before .before .before .args .g) (c .before .before .before .before .before .before .before .before .before .args .h) (c .before .before .if3 .left)))) (stops _ 4 _ (le-ltb (c .before .before .before .before .before .before .before .before .before .args .f) (size-of (c .before .before .before .before .before .before .before .before .before .args .ledger .now))
+    (omega (arith, c .before .size .ensures .0, c .if4 .taken)))))
 
 is-page-of-requires : tie.Need-is-page-of-requires
 is-page-of-requires c κs = (c .before .before .before .before .before .before .before .before .before .pre .ledger-sound, (omega (arith, c .before .size .ensures .0, c .if4 .left)))
@@ -49,7 +51,8 @@ returns-5 c = (goes-on _ 5 _ (and-both _ _ (sym (c .before .before .before .befo
 returns-6 : tie.Need-returns-6
 unfolding share state-in
 returns-6 c = (goes-on _ 5 _ (and-both _ _ (sym (c .before .before .before .before .before .before .before .before .before .exists .ensures) ∙ not-false _ (c .before .before .before .before .before .before .before .before .if1 .left)) ((sym (c .before .before .before .before .before .before .before .exists2 .ensures) ∙ not-false _ (c .before .before .before .before .before .before .if2 .left))))) ((goes-on _ 12 _ (ap not (ne-eqb (c .before .before .before .before .before .before .before .before .before .before .before .before .args .g) (c .before .before .before .before .before .before .before .before .before .before .before .before .args .h) (c .before .before .before .before .before .if3 .left)))) ((goes-on _ 4 _ (lt-ltb (c .before .before .before .before .before .before .before .before .before .before .before .before .args .f) (size-of (c .before .before .before .before .before .before .before .before .before .before .before .before .args .ledger .now)) ((omega (arith, c .before .before .before .before .size .ensures .0, c .before .before .before .if4 .left))))) ((goes-on _ 9 _ (sym (c .before .before .is-page-of .ensures) ∙ not-false _ (c .before .if5 .left)))
-    (wide-out ((count-of (c .before .before .before .before .before .before .before .before .before .before .before .before .args .ledger .now) (c .before .before .before .before .before .before .before .before .before .before .before .before .args .f) (c .before .before .before .before .before .before .before .before .before .before .before .before .args .h))) ((dirty-of (c .before .before .before .before .before .before .before .before .before .before .before .before .args .ledger .now) (c .before .before .before .before .before .before .before .before .before .before .before .before .args .h))) _ ((leb 2 (shared-of (c .before .before .before .before .before .before .before .before .before .before .before .before .args .ledger .now) (c .before .before .before .before .before .before .before .before .before .before .before .before .args .f) (c .before .before .before .before .before .before .before .before .before .before .before .before .args .h))) && eqb (c .before .before .before .before .before .before .before .before .before .before .before .before .args .w) 0) (and-right ((leb 2 (shared-of (c .before .before .before .before .before .before .before .before .before .before .before .before .args .ledger .now) (c .before .before .before .before .before .before .before .before .before .before .before .before .args .f) (c .before .before .before .before .before .before .before .before .before .before .before .before .args .h)))) _ (ne-eqb (c .before .before .before .before .before .before .before .before .before .before .before .before .args .w) 0 (c .if6 .taken)))))))
+    (wide-out ((count-of (c .before .before .before .before .before .before .before .before .before .before .before .before .args .ledger .now) (c .before .before .before .before .before .before .before .before .before .before .before .before .args .f) (c .before .before .before .before .before .before .before .before .before .before .before .before .args .h))) ((dirty-of (c .before .before .before .before .before .before .before .before .before .before .before .before .args .ledger .now) (c .before .before .before .before .before .before .before .before .before .before .before .before .args .h))) _ ((leb 2 (shared-of (c .before .before .before .before .before .before .before .before .before .before .before .before .args .ledger .now) (c .before .before .before .before .before .before .before .before .before .before .before .before .args .f) (c .before .before .before .before .before .before .before .before .before .before .before .before .args .h))) && eqb (c .before .before .before .before .before .before .before .before .before .before .before .before .args .w) 0)
+    (and-right ((leb 2 (shared-of (c .before .before .before .before .before .before .before .before .before .before .before .before .args .ledger .now) (c .before .before .before .before .before .before .before .before .before .before .before .before .args .f) (c .before .before .before .before .before .before .before .before .before .before .before .before .args .h)))) _ (ne-eqb (c .before .before .before .before .before .before .before .before .before .before .before .before .args .w) 0 (c .if6 .taken)))))))
 
 share-requires : tie.Need-share-requires
 share-requires c κs = (c .before .before .before .before .before .before .before .before .before .before .before .before .pre .ledger-sound, ((omega (arith, c .before .before .before .before .size .ensures .0, c .before .before .before .if4 .left)), (guest-there (c .before .before .before .before .before .before .before .before .before .before .before .before .args .ram .now) (c .before .before .before .before .before .before .before .before .before .before .before .before .args .ledger .now) (c .before .before .before .before .before .before .before .before .before .before .before .before .pre) (c .before .before .before .before .before .before .before .before .before .before .before .before .args .h) ((sym (c .before .before .before .before .before .before .before .exists2 .ensures) ∙ not-false _ (c .before .before .before .before .before .before .if2 .left))))))
@@ -57,7 +60,9 @@ share-requires c κs = (c .before .before .before .before .before .before .befor
 returns-7 : tie.Need-returns-7
 unfolding share state-in
 returns-7 c = (goes-on _ 5 _ (and-both _ _ (sym (c .before .before .before .before .before .before .before .before .before .before .before .exists .ensures) ∙ not-false _ (c .before .before .before .before .before .before .before .before .before .before .if1 .left)) ((sym (c .before .before .before .before .before .before .before .before .before .exists2 .ensures) ∙ not-false _ (c .before .before .before .before .before .before .before .before .if2 .left))))) ((goes-on _ 12 _ (ap not (ne-eqb (c .before .before .before .before .before .before .before .before .before .before .before .before .before .before .args .g) (c .before .before .before .before .before .before .before .before .before .before .before .before .before .before .args .h) (c .before .before .before .before .before .before .before .if3 .left)))) ((goes-on _ 4 _ (lt-ltb (c .before .before .before .before .before .before .before .before .before .before .before .before .before .before .args .f) (size-of (c .before .before .before .before .before .before .before .before .before .before .before .before .before .before .args .ledger .now)) ((omega (arith, c .before .before .before .before .before .before .size .ensures .0, c .before .before .before .before .before .if4 .left))))) ((goes-on _ 9 _ (sym (c .before .before .before .before .is-page-of .ensures) ∙ not-false _ (c .before .before .before .if5 .left)))
-    (wide-out ((count-of (c .before .before .before .before .before .before .before .before .before .before .before .before .before .before .args .ledger .now) (c .before .before .before .before .before .before .before .before .before .before .before .before .before .before .args .f) (c .before .before .before .before .before .before .before .before .before .before .before .before .before .before .args .h))) ((dirty-of (c .before .before .before .before .before .before .before .before .before .before .before .before .before .before .args .ledger .now) (c .before .before .before .before .before .before .before .before .before .before .before .before .before .before .args .h))) _ ((leb 2 (shared-of (c .before .before .before .before .before .before .before .before .before .before .before .before .before .before .args .ledger .now) (c .before .before .before .before .before .before .before .before .before .before .before .before .before .before .args .f) (c .before .before .before .before .before .before .before .before .before .before .before .before .before .before .args .h))) && eqb (c .before .before .before .before .before .before .before .before .before .before .before .before .before .before .args .w) 0) (and-left _ _ (lt-leb 2 (shared-of (c .before .before .before .before .before .before .before .before .before .before .before .before .before .before .args .ledger .now) (c .before .before .before .before .before .before .before .before .before .before .before .before .before .before .args .f) (c .before .before .before .before .before .before .before .before .before .before .before .before .before .before .args .h)) (omega (arith, c .before .share .ensures, c .if7 .taken))))))))
+    (wide-out ((count-of (c .before .before .before .before .before .before .before .before .before .before .before .before .before .before .args .ledger .now) (c .before .before .before .before .before .before .before .before .before .before .before .before .before .before .args .f) (c .before .before .before .before .before .before .before .before .before .before .before .before .before .before .args .h))) ((dirty-of (c .before .before .before .before .before .before .before .before .before .before .before .before .before .before .args .ledger .now) (c .before .before .before .before .before .before .before .before .before .before .before .before .before .before .args .h))) _ ((leb 2 (shared-of (c .before .before .before .before .before .before .before .before .before .before .before .before .before .before .args .ledger .now) (c .before .before .before .before .before .before .before .before .before .before .before .before .before .before .args .f) (c .before .before .before .before .before .before .before .before .before .before .before .before .before .before .args .h))) && eqb (c .before .before .before .before .before .before .before .before .before .before .before .before .before .before .args .w) 0)
+    (and-left _ _ (lt-leb 2 (shared-of (c .before .before .before .before .before .before .before .before .before .before .before .before .before .before .args .ledger .now) (c .before .before .before .before .before .before .before .before .before .before .before .before .before .before .args .f) (c .before .before .before .before .before .before .before .before .before .before .before .before .before .before .args .h))
+    (omega (arith, c .before .share .ensures, c .if7 .taken))))))))
 
 held-requires : tie.Need-held-requires
 held-requires c κs = (c .before .before .before .before .before .before .before .before .before .before .before .before .before .before .pre .ledger-sound, ((omega (arith, c .before .before .before .before .before .before .size .ensures .0, c .before .before .before .before .before .if4 .left)), (guest-there (c .before .before .before .before .before .before .before .before .before .before .before .before .before .before .args .ram .now) (c .before .before .before .before .before .before .before .before .before .before .before .before .before .before .args .ledger .now) (c .before .before .before .before .before .before .before .before .before .before .before .before .before .before .pre) (c .before .before .before .before .before .before .before .before .before .before .before .before .before .before .args .h) ((sym (c .before .before .before .before .before .before .before .before .before .exists2 .ensures) ∙ not-false _ (c .before .before .before .before .before .before .before .before .if2 .left))))))
@@ -66,7 +71,8 @@ returns-8 : tie.Need-returns-8
 unfolding share state-in
 returns-8 c = (goes-on _ 5 _ (and-both _ _ (sym (c .before .before .before .before .before .before .before .before .before .before .before .before .exists .ensures) ∙ not-false _ (c .before .before .before .before .before .before .before .before .before .before .before .if1 .left)) ((sym (c .before .before .before .before .before .before .before .before .before .before .exists2 .ensures) ∙ not-false _ (c .before .before .before .before .before .before .before .before .before .if2 .left))))) ((goes-on _ 12 _ (ap not (ne-eqb (c .before .before .before .before .before .before .before .before .before .before .before .before .before .before .before .args .g) (c .before .before .before .before .before .before .before .before .before .before .before .before .before .before .before .args .h) (c .before .before .before .before .before .before .before .before .if3 .left)))) ((goes-on _ 4 _ (lt-ltb (c .before .before .before .before .before .before .before .before .before .before .before .before .before .before .before .args .f) (size-of (c .before .before .before .before .before .before .before .before .before .before .before .before .before .before .before .args .ledger .now)) ((omega (arith, c .before .before .before .before .before .before .before .size .ensures .0, c .before .before .before .before .before .before .if4 .left))))) ((goes-on _ 9 _ (sym (c .before .before .before .before .before .is-page-of .ensures) ∙ not-false _ (c .before .before .before .before .if5 .left)))
     (c .held .ensures ∙ narrow-out ((count-of (c .before .before .before .before .before .before .before .before .before .before .before .before .before .before .before .args .ledger .now) (c .before .before .before .before .before .before .before .before .before .before .before .before .before .before .before .args .f) (c .before .before .before .before .before .before .before .before .before .before .before .before .before .before .before .args .h))) ((dirty-of (c .before .before .before .before .before .before .before .before .before .before .before .before .before .before .before .args .ledger .now) (c .before .before .before .before .before .before .before .before .before .before .before .before .before .before .before .args .h))) _ ((leb 2 (shared-of (c .before .before .before .before .before .before .before .before .before .before .before .before .before .before .before .args .ledger .now) (c .before .before .before .before .before .before .before .before .before .before .before .before .before .before .before .args .f) (c .before .before .before .before .before .before .before .before .before .before .before .before .before .before .before .args .h))) && eqb (c .before .before .before .before .before .before .before .before .before .before .before .before .before .before .before .args .w) 0)
-    (and-both _ _ (le-leb 2 (shared-of (c .before .before .before .before .before .before .before .before .before .before .before .before .before .before .before .args .ledger .now) (c .before .before .before .before .before .before .before .before .before .before .before .before .before .before .before .args .f) (c .before .before .before .before .before .before .before .before .before .before .before .before .before .before .before .args .h)) (omega (arith, c .before .before .share .ensures, c .before .if7 .left))) (eq-eqb (c .before .before .before .before .before .before .before .before .before .before .before .before .before .before .before .args .w) 0 (c .before .before .before .if6 .left)))))))
+    (and-both _ _ (le-leb 2 (shared-of (c .before .before .before .before .before .before .before .before .before .before .before .before .before .before .before .args .ledger .now) (c .before .before .before .before .before .before .before .before .before .before .before .before .before .before .before .args .f) (c .before .before .before .before .before .before .before .before .before .before .before .before .before .before .before .args .h)) (omega (arith, c .before .before .share .ensures, c .before .if7 .left)))
+    (eq-eqb (c .before .before .before .before .before .before .before .before .before .before .before .before .before .before .before .args .w) 0 (c .before .before .before .if6 .left)))))))
 
 pub check-share-spec : {M : Type 1} → statement M
 check-share-spec =

@@ -27,7 +27,8 @@ exists-requires-2 c κs = c .before .before .before .before .pre .ledger-sound
 
 returns-2 : tie.Need-returns-2
 unfolding unshare state-in
-returns-2 c = stops _ 5 _ (and-right (exists-of (c .before .before .before .before .before .before .args .ledger .now) (c .before .before .before .before .before .before .args .g)) _ (sym (c .before .exists2 .ensures) ∙ not-true _ (c .if2 .taken)))
+returns-2 c = stops _ 5 _ (and-right (exists-of (c .before .before .before .before .before .before .args .ledger .now) (c .before .before .before .before .before .before .args .g)) _
+    (sym (c .before .exists2 .ensures) ∙ not-true _ (c .if2 .taken)))
 
 size-requires : tie.Need-size-requires
 size-requires c κs = c .before .before .before .before .before .before .pre .ledger-sound
@@ -48,7 +49,8 @@ share-requires c κs = (c .before .before .before .before .before .before .befor
 
 returns-5 : tie.Need-returns-5
 unfolding unshare state-in
-returns-5 c = (goes-on _ 5 _ (and-both _ _ (sym (c .before .before .before .before .before .before .before .before .before .exists .ensures) ∙ not-false _ (c .before .before .before .before .before .before .before .before .if1 .left)) ((sym (c .before .before .before .before .before .before .before .exists2 .ensures) ∙ not-false _ (c .before .before .before .before .before .before .if2 .left))))) ((goes-on _ 4 _ (lt-ltb (c .before .before .before .before .before .before .before .before .before .before .before .before .args .f) (size-of (c .before .before .before .before .before .before .before .before .before .before .before .before .args .ledger .now)) ((omega (arith, c .before .before .before .before .before .size .ensures .0, c .before .before .before .before .if3 .left))))) (stops _ 9 _ (and-right (is-page-of (kind-of (c .before .before .before .before .before .before .before .before .before .before .before .before .args .ledger .now) (c .before .before .before .before .before .before .before .before .before .before .before .before .args .f)) (c .before .before .before .before .before .before .before .before .before .before .before .before .args .g)) _ (le-ltb 0 ((shared-of (c .before .before .before .before .before .before .before .before .before .before .before .before .args .ledger .now) (c .before .before .before .before .before .before .before .before .before .before .before .before .args .f) (c .before .before .before .before .before .before .before .before .before .before .before .before .args .h))) (omega (arith, c .before .share .ensures, c .if5 .taken))))))
+returns-5 c = (goes-on _ 5 _ (and-both _ _ (sym (c .before .before .before .before .before .before .before .before .before .exists .ensures) ∙ not-false _ (c .before .before .before .before .before .before .before .before .if1 .left)) ((sym (c .before .before .before .before .before .before .before .exists2 .ensures) ∙ not-false _ (c .before .before .before .before .before .before .if2 .left))))) ((goes-on _ 4 _ (lt-ltb (c .before .before .before .before .before .before .before .before .before .before .before .before .args .f) (size-of (c .before .before .before .before .before .before .before .before .before .before .before .before .args .ledger .now)) ((omega (arith, c .before .before .before .before .before .size .ensures .0, c .before .before .before .before .if3 .left))))) (stops _ 9 _ (and-right (is-page-of (kind-of (c .before .before .before .before .before .before .before .before .before .before .before .before .args .ledger .now) (c .before .before .before .before .before .before .before .before .before .before .before .before .args .f)) (c .before .before .before .before .before .before .before .before .before .before .before .before .args .g)) _
+    (le-ltb 0 ((shared-of (c .before .before .before .before .before .before .before .before .before .before .before .before .args .ledger .now) (c .before .before .before .before .before .before .before .before .before .before .before .before .args .f) (c .before .before .before .before .before .before .before .before .before .before .before .before .args .h))) (omega (arith, c .before .share .ensures, c .if5 .taken))))))
 
 held-requires : tie.Need-held-requires
 held-requires c κs = (c .before .before .before .before .before .before .before .before .before .before .before .before .pre .ledger-sound, ((omega (arith, c .before .before .before .before .before .size .ensures .0, c .before .before .before .before .if3 .left)), (guest-there (c .before .before .before .before .before .before .before .before .before .before .before .before .args .ram .now) (c .before .before .before .before .before .before .before .before .before .before .before .before .args .ledger .now) (c .before .before .before .before .before .before .before .before .before .before .before .before .pre) (c .before .before .before .before .before .before .before .before .before .before .before .before .args .h) ((sym (c .before .before .before .before .before .before .before .exists2 .ensures) ∙ not-false _ (c .before .before .before .before .before .before .if2 .left))))))
@@ -56,7 +58,8 @@ held-requires c κs = (c .before .before .before .before .before .before .before
 returns-6 : tie.Need-returns-6
 unfolding unshare state-in
 returns-6 c = (goes-on _ 5 _ (and-both _ _ (sym (c .before .before .before .before .before .before .before .before .before .before .exists .ensures) ∙ not-false _ (c .before .before .before .before .before .before .before .before .before .if1 .left)) ((sym (c .before .before .before .before .before .before .before .before .exists2 .ensures) ∙ not-false _ (c .before .before .before .before .before .before .before .if2 .left))))) ((goes-on _ 4 _ (lt-ltb (c .before .before .before .before .before .before .before .before .before .before .before .before .before .args .f) (size-of (c .before .before .before .before .before .before .before .before .before .before .before .before .before .args .ledger .now)) ((omega (arith, c .before .before .before .before .before .before .size .ensures .0, c .before .before .before .before .before .if3 .left)))))
-    (goes-on _ 9 _ (and-both _ _ (sym (c .before .before .before .before .is-page-of .ensures) ∙ not-false _ (c .before .before .before .if4 .left)) (lt-ltb 0 ((shared-of (c .before .before .before .before .before .before .before .before .before .before .before .before .before .args .ledger .now) (c .before .before .before .before .before .before .before .before .before .before .before .before .before .args .f) (c .before .before .before .before .before .before .before .before .before .before .before .before .before .args .h))) (omega (arith, c .before .before .share .ensures, c .before .if5 .left))))
+    (goes-on _ 9 _ (and-both _ _ (sym (c .before .before .before .before .is-page-of .ensures) ∙ not-false _ (c .before .before .before .if4 .left))
+    (lt-ltb 0 ((shared-of (c .before .before .before .before .before .before .before .before .before .before .before .before .before .args .ledger .now) (c .before .before .before .before .before .before .before .before .before .before .before .before .before .args .f) (c .before .before .before .before .before .before .before .before .before .before .before .before .before .args .h))) (omega (arith, c .before .before .share .ensures, c .before .if5 .left))))
     (c .held .ensures ∙ held-out (count-of (c .before .before .before .before .before .before .before .before .before .before .before .before .before .args .ledger .now) (c .before .before .before .before .before .before .before .before .before .before .before .before .before .args .f) (c .before .before .before .before .before .before .before .before .before .before .before .before .before .args .h)) (dirty-of (c .before .before .before .before .before .before .before .before .before .before .before .before .before .args .ledger .now) (c .before .before .before .before .before .before .before .before .before .before .before .before .before .args .h)) _)))
 
 pub check-unshare-spec : {M : Type 1} → statement M

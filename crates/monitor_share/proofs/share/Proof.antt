@@ -16,17 +16,18 @@ same-length c = search needs
 returns : tie.Need-returns
 returns c = refused (c .before .before .before .before .before .pre) (c .before .check-share .ensures) (c .if1 .taken)
 
-rights-requires : tie.Need-rights-requires
-rights-requires c κs = search needs
+extent-requires : tie.Need-extent-requires
+extent-requires c κs = search needs
 
 set-share-requires : tie.Need-set-share-requires
-set-share-requires c κs = (c .before .before .before .before .before .before .before .pre .ledger-sound, ((share-owned (c .before .before .before .before .before .before .before .pre) (c .before .before .before .before .before .before .before .args .g) (c .before .before .before .before .before .before .before .args .f) (c .before .before .before .before .before .before .before .args .h) (c .before .before .before .before .before .before .before .args .w) ((sym (c .before .before .before .check-share .ensures) ∙ c .before .before .if1 .left))) .low, ((share-owned (c .before .before .before .before .before .before .before .pre) (c .before .before .before .before .before .before .before .args .g) (c .before .before .before .before .before .before .before .args .f) (c .before .before .before .before .before .before .before .args .h) (c .before .before .before .before .before .before .before .args .w) ((sym (c .before .before .before .check-share .ensures) ∙ c .before .before .if1 .left))) .there, extent-low (c .before .before .before .before .before .before .before .args .w) (c .rights .result) (c .rights .ensures))))
+set-share-requires c κs = (c .before .before .before .before .before .before .before .pre .ledger-sound, ((share-owned (c .before .before .before .before .before .before .before .pre) (c .before .before .before .before .before .before .before .args .g) (c .before .before .before .before .before .before .before .args .f) (c .before .before .before .before .before .before .before .args .h) (c .before .before .before .before .before .before .before .args .w) ((sym (c .before .before .before .check-share .ensures) ∙ c .before .before .if1 .left))) .low, ((share-owned (c .before .before .before .before .before .before .before .pre) (c .before .before .before .before .before .before .before .args .g) (c .before .before .before .before .before .before .before .args .f) (c .before .before .before .before .before .before .before .args .h) (c .before .before .before .before .before .before .before .args .w) ((sym (c .before .before .before .check-share .ensures) ∙ c .before .before .if1 .left))) .there, extent-low (c .before .before .before .before .before .before .before .args .w) (c .extent .result) (c .extent .ensures))))
 
 same-length-2 : tie.Need-same-length-2
 same-length-2 c = search needs
 
 returns-2 : tie.Need-returns-2
-returns-2 c = answered (share-end (c .before .before .before .before .before .before .before .before .before .before .pre) (c .before .before .before .before .before .before .before .before .before .before .args .g) (c .before .before .before .before .before .before .before .before .before .before .args .f) (c .before .before .before .before .before .before .before .before .before .before .args .h) (c .before .before .before .before .before .before .before .before .before .before .args .w) ((sym (c .before .before .before .before .before .before .check-share .ensures) ∙ c .before .before .before .before .before .if1 .left)) (c .before .before .before .rights .result) _ (c .before .before .before .rights .ensures) (c .before .before .set-share .ensures))
+returns-2 c = answered (share-end (c .before .before .before .before .before .before .before .before .before .before .pre) (c .before .before .before .before .before .before .before .before .before .before .args .g) (c .before .before .before .before .before .before .before .before .before .before .args .f) (c .before .before .before .before .before .before .before .before .before .before .args .h) (c .before .before .before .before .before .before .before .before .before .before .args .w) ((sym (c .before .before .before .before .before .before .check-share .ensures) ∙ c .before .before .before .before .before .if1 .left)) (c .before .before .before .extent .result) _ (c .before .before .before .extent .ensures)
+    (c .before .before .set-share .ensures))
 
 pub share-spec : {M : Type 1} → statement M
 share-spec =
@@ -35,7 +36,7 @@ share-spec =
     check-share-requires
     same-length
     returns
-    rights-requires
+    extent-requires
     set-share-requires
     same-length-2
     returns-2)

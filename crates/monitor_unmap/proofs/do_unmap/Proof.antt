@@ -15,7 +15,7 @@ count-requires : tie.Need-count-requires
 count-requires c κs = (c .before .before .before .before .before .before .before .pre .0 .ledger-sound, ((unmap-low (c .before .before .before .before .before .before .before .pre .0) (c .before .before .before .before .before .before .before .pre .1)), (unmap-guest (c .before .before .before .before .before .before .before .pre .0) (c .before .before .before .before .before .before .before .pre .1))))
 
 sub-set-count : tie.Need-sub-set-count
-sub-set-count c = (unmap-count (c .before .before .before .before .before .before .before .before .before .pre .0) (c .before .before .before .before .before .before .before .before .before .pre .1) (c .before .count .result) (c .before .count .ensures)) .0
+sub-set-count c = omega (arith, (unmap-count (c .before .before .before .before .before .before .before .before .before .pre .0) (c .before .before .before .before .before .before .before .before .before .pre .1) (c .before .count .result) (c .before .count .ensures)) .0)
 
 set-count-requires : tie.Need-set-count-requires
 set-count-requires c κs = (c .before .before .before .before .before .before .before .before .before .pre .0 .ledger-sound, ((unmap-low (c .before .before .before .before .before .before .before .before .before .pre .0) (c .before .before .before .before .before .before .before .before .before .pre .1)), ((unmap-guest (c .before .before .before .before .before .before .before .before .before .pre .0) (c .before .before .before .before .before .before .before .before .before .pre .1)), omega (arith, (unmap-count (c .before .before .before .before .before .before .before .before .before .pre .0) (c .before .before .before .before .before .before .before .before .before .pre .1) (c .before .count .result) (c .before .count .ensures)) .1))))
@@ -30,7 +30,8 @@ same-length-2 : tie.Need-same-length-2
 same-length-2 c = search needs
 
 returns : tie.Need-returns
-returns c = unmap-end (c .before .before .before .before .before .before .before .before .before .before .before .before .before .before .before .before .pre .0) (c .before .before .before .before .before .before .before .before .before .before .before .before .before .before .before .before .pre .1) (c .before .before .before .before .before .before .before .before .count .result) _ _ _ (c .before .before .before .before .before .before .before .before .before .before .before .before .store-entry .ensures) (omega (arith, c .before .before .before .before .before .before .before .before .before .before .before .before .store-entry .kept)) (c .before .before .before .before .before .before .before .before .count .ensures) (c .before .before .before .before .before .before .set-count .ensures) (c .before .before .set-dirty .ensures)
+returns c = unmap-end (c .before .before .before .before .before .before .before .before .before .before .before .before .before .before .before .before .pre .0) (c .before .before .before .before .before .before .before .before .before .before .before .before .before .before .before .before .pre .1) (c .before .before .before .before .before .before .before .before .count .result) _ _ _ (c .before .before .before .before .before .before .before .before .before .before .before .before .store-entry .ensures) (omega (arith, c .before .before .before .before .before .before .before .before .before .before .before .before .store-entry .kept))
+    (c .before .before .before .before .before .before .before .before .count .ensures) (c .before .before .before .before .before .before .set-count .ensures) (c .before .before .set-dirty .ensures)
 
 pub do-unmap-spec : {M : Type 1} → statement M
 do-unmap-spec =

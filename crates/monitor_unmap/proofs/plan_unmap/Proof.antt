@@ -5,8 +5,8 @@ use Rattle.model.proofs.Laws.Base.{not-true}
 use Rattle.model.proofs.Invariant.MapUnmap.{address-low}
 use Rattle.ledger.specs.Layout.{state-in, state-of}
 use borrow.Author.Tests.{not-false}
-use Rattle.monitor_descent.proofs.Laws.Way.{way-words}
-use Rattle.monitor_unmap.proofs.Laws.Unmap.{unmap-5, unmap-7, plan-above, plan-empty, plan-slot}
+use Rattle.monitor_tables.proofs.Laws.Way.{way-words}
+use Rattle.monitor_unmap.proofs.Laws.Unmap.{unmap-5, unmap-7, plan-unmapped, plan-leads, plan-slot}
 use borrow.Author.Needs.{needs}
 use native.Mathlib.Omega.{arith}
 use Rattle.monitor_unmap.proofs.plan_unmap.Statement.{statement}
@@ -17,36 +17,40 @@ exists-requires c κs = c .before .before .pre .ledger-sound
 
 returns : tie.Need-returns
 unfolding state-in
-returns c = unmap-5 (state-of (c .before .before .before .before .args .ram .now) (c .before .before .before .before .args .ledger .now)) (c .before .before .before .before .args .a) (c .before .before .before .before .args .g) (sym (c .before .exists .ensures) ∙ not-true _ (c .if1 .taken))
+returns c = unmap-5 ((state-of (c .before .before .before .before .args .ram .now) (c .before .before .before .before .args .ledger .now))) (c .before .before .before .before .args .a) (c .before .before .before .before .args .g) (sym (c .before .exists .ensures) ∙ not-true _ (c .if1 .taken))
 
 is-page-address-requires : tie.Need-is-page-address-requires
 is-page-address-requires c κs = search needs
 
 returns-2 : tie.Need-returns-2
 unfolding state-in
-returns-2 c = unmap-7 (state-of (c .before .before .before .before .before .before .args .ram .now) (c .before .before .before .before .before .before .args .ledger .now)) (c .before .before .before .before .before .before .args .a) (c .before .before .before .before .before .before .args .g) (sym (c .before .before .before .exists .ensures) ∙ not-false _ (c .before .before .if1 .left)) (sym (c .before .is-page-address .ensures) ∙ not-true _ (c .if2 .taken))
+returns-2 c = unmap-7 ((state-of (c .before .before .before .before .before .before .args .ram .now) (c .before .before .before .before .before .before .args .ledger .now))) (c .before .before .before .before .before .before .args .a) (c .before .before .before .before .before .before .args .g) (sym (c .before .before .before .exists .ensures) ∙ not-false _ (c .before .before .if1 .left))
+    (sym (c .before .is-page-address .ensures) ∙ not-true _ (c .if2 .taken))
 
 descend-requires : tie.Need-descend-requires
 descend-requires c κs = (c .before .before .before .before .before .before .pre, ((sym (c .before .before .before .exists .ensures) ∙ not-false _ (c .before .before .if1 .left)), address-low (c .before .before .before .before .before .before .args .a) (sym (c .before .is-page-address .ensures) ∙ not-false _ (c .if2 .left))))
 
+is-mapped-requires : tie.Need-is-mapped-requires
+is-mapped-requires c κs = (c .before .before .before .before .before .before .before .pre, ((sym (c .before .before .before .before .exists .ensures) ∙ not-false _ (c .before .before .before .if1 .left)), c .descend .ensures))
+
 returns-3 : tie.Need-returns-3
-returns-3 c = plan-above (c .before .before .before .before .before .before .before .before .before .pre) (c .before .before .before .before .before .before .before .before .before .args .a) (c .before .before .before .before .before .before .before .before .before .args .g) (sym (c .before .before .before .before .before .before .exists .ensures) ∙ not-false _ (c .before .before .before .before .before .if1 .left)) (sym (c .before .before .before .before .is-page-address .ensures) ∙ not-false _ (c .before .before .before .if2 .left)) (c .before .before .descend .ensures) (c .if3 .taken)
-
-entry-requires : tie.Need-entry-requires
-entry-requires c κs = let k = way-words (c .before .before .before .before .before .before .before .before .before .pre) (c .before .before .descend .ensures .reached) in
-    (omega arith, k .0, k .1)
-
-returns-4 : tie.Need-returns-4
-returns-4 c = plan-empty (c .before .before .before .before .before .before .before .before .before .before .before .pre) (c .before .before .before .before .before .before .before .before .before .before .before .args .a) (c .before .before .before .before .before .before .before .before .before .before .before .args .g) (sym (c .before .before .before .before .before .before .before .before .exists .ensures) ∙ not-false _ (c .before .before .before .before .before .before .before .if1 .left)) (sym (c .before .before .before .before .before .before .is-page-address .ensures) ∙ not-false _ (c .before .before .before .before .before .if2 .left)) (c .before .before .before .before .descend .ensures) (c .before .before .if3 .left) (c .before .entry .result) (c .before .entry .ensures) (c .if4 .taken)
+returns-3 c = plan-unmapped (c .before .before .before .before .before .before .before .before .before .pre) (c .before .before .before .before .before .before .before .before .before .args .a) (c .before .before .before .before .before .before .before .before .before .args .g) (sym (c .before .before .before .before .before .before .exists .ensures) ∙ not-false _ (c .before .before .before .before .before .if1 .left)) (sym (c .before .before .before .before .is-page-address .ensures) ∙ not-false _ (c .before .before .before .if2 .left)) (c .before .before .descend .ensures) _ (c .before .is-mapped .ensures)
+    (not-true _ (c .if3 .taken))
 
 first-requires : tie.Need-first-requires
-first-requires c κs = c .before .before .before .before .before .before .before .before .before .before .before .pre .ledger-sound
+first-requires c κs = c .before .before .before .before .before .before .before .before .before .pre .ledger-sound
 
-sub-t12 : tie.Need-sub-t12
-sub-t12 c = (plan-slot (c .before .before .before .before .before .before .before .before .before .before .before .before .pre) (c .before .before .before .before .before .before .before .before .before .before .before .before .args .a) (c .before .before .before .before .before .before .before .before .before .before .before .before .args .g) (sym (c .before .before .before .before .before .before .before .before .before .exists .ensures) ∙ not-false _ (c .before .before .before .before .before .before .before .before .if1 .left)) (sym (c .before .before .before .before .before .before .before .is-page-address .ensures) ∙ not-false _ (c .before .before .before .before .before .before .if2 .left)) (c .before .before .before .before .before .descend .ensures) (c .before .before .before .if3 .left) (c .before .before .entry .result) (c .before .before .entry .ensures) (c .before .if4 .left) (c .first .result) (c .first .ensures)) .0
+entry-requires : tie.Need-entry-requires
+entry-requires c κs = let k = way-words (c .before .before .before .before .before .before .before .before .before .before .pre) (c .before .before .before .descend .ensures .reached) in
+    (omega arith, k .0, k .1)
 
-returns-5 : tie.Need-returns-5
-returns-5 c = (plan-slot (c .before .before .before .before .before .before .before .before .before .before .before .before .pre) (c .before .before .before .before .before .before .before .before .before .before .before .before .args .a) (c .before .before .before .before .before .before .before .before .before .before .before .before .args .g) (sym (c .before .before .before .before .before .before .before .before .before .exists .ensures) ∙ not-false _ (c .before .before .before .before .before .before .before .before .if1 .left)) (sym (c .before .before .before .before .before .before .before .is-page-address .ensures) ∙ not-false _ (c .before .before .before .before .before .before .if2 .left)) (c .before .before .before .before .before .descend .ensures) (c .before .before .before .if3 .left) (c .before .before .entry .result) (c .before .before .entry .ensures) (c .before .if4 .left) (c .first .result) (c .first .ensures)) .1
+frame-in-requires : tie.Need-frame-in-requires
+frame-in-requires c κs = plan-leads (c .before .before .before .before .before .before .before .before .before .before .before .pre) (c .before .before .before .before .before .before .before .before .before .before .before .args .a) (c .before .before .before .before .before .before .before .before .before .before .before .args .g) (sym (c .before .before .before .before .before .before .before .before .exists .ensures) ∙ not-false _ (c .before .before .before .before .before .before .before .if1 .left)) (sym (c .before .before .before .before .before .before .is-page-address .ensures) ∙ not-false _ (c .before .before .before .before .before .if2 .left)) (c .before .before .before .before .descend .ensures) _ (c .before .before .before .is-mapped .ensures) (not-false _ (c .before .before .if3 .left))
+    (c .before .first .result) (c .entry .result) (c .before .first .ensures) (c .entry .ensures)
+
+returns-4 : tie.Need-returns-4
+returns-4 c = plan-slot (c .before .before .before .before .before .before .before .before .before .before .before .before .pre) (c .before .before .before .before .before .before .before .before .before .before .before .before .args .a) (c .before .before .before .before .before .before .before .before .before .before .before .before .args .g) (sym (c .before .before .before .before .before .before .before .before .before .exists .ensures) ∙ not-false _ (c .before .before .before .before .before .before .before .before .if1 .left)) (sym (c .before .before .before .before .before .before .before .is-page-address .ensures) ∙ not-false _ (c .before .before .before .before .before .before .if2 .left)) (c .before .before .before .before .before .descend .ensures) _ (c .before .before .before .before .is-mapped .ensures) (not-false _ (c .before .before .before .if3 .left))
+    (c .before .before .first .result) (c .before .entry .result) (c .before .before .first .ensures) (c .before .entry .ensures) _ (c .frame-in .ensures)
 
 pub plan-unmap-spec : {M : Type 1} → statement M
 plan-unmap-spec =
@@ -57,9 +61,9 @@ plan-unmap-spec =
     is-page-address-requires
     returns-2
     descend-requires
+    is-mapped-requires
     returns-3
-    entry-requires
-    returns-4
     first-requires
-    sub-t12
-    returns-5)
+    entry-requires
+    frame-in-requires
+    returns-4)

@@ -34,7 +34,7 @@ module _ (m l : List ℕ) (ok : Sound m l) where
   in-order (Create g) = orderly (state-of m l) (ok .core) (M.Create g (pick-of l)) (chosen l (ok .ledger-sound) m)
   in-order (Give f g) = orderly (state-of m l) (ok .core) (M.Give f g) tt
   in-order (Map f g a r) = orderly (state-of m l) (ok .core) (M.Map f g a r (pick-of l)) (chosen l (ok .ledger-sound) m)
-  in-order (Unmap a g) = orderly (state-of m l) (ok .core) (M.Unmap g a) tt
+  in-order (Unmap a g) = orderly (state-of m l) (ok .core) (M.Unmap a g) tt
   in-order (Share g f h w) = orderly (state-of m l) (ok .core) (M.Share g f h w) tt
   in-order (Unshare g f h) = orderly (state-of m l) (ok .core) (M.Unshare g f h) tt
   in-order (Take f g) = orderly (state-of m l) (ok .core) (M.Take f g) tt
@@ -55,11 +55,11 @@ unfolding check
 settled true s m l r m′ l′ h x = x
 settled false s m l r m′ l′ h x = absurd (omega arith)
 
-pub started-so : (n b k : ℕ) (m l : List ℕ) (r : ℕ) (l′ : List ℕ) → refusal (S.setting-up n b k m l) ≡ 0
-    → S.SetUp n b k m l r l′ → (r ≡ 0) × (first-of l′ ≡ b / frame-bytes)
+pub started-so : (b n k : ℕ) (m l : List ℕ) (r : ℕ) (l′ : List ℕ) → refusal (S.setting-up b n k m l) ≡ 0
+    → S.SetUp b n k m l r l′ → (r ≡ 0) × (first-of l′ ≡ b / frame-bytes)
 unfolding set-up
 started-so n b k m l r l′ h x =
-    let y = settled _ (started n b k (word-of m)) m l r m l′ h (x .outcome) in
+    let y = settled _ (started b n k (word-of m)) m l r m l′ h (x .outcome) in
     (y .0, unfold state-in started in ap (λ (q : State). q .first) (y .1))
 
 -- the walk of the monitor's question is the machine's

@@ -24,7 +24,8 @@ same-length : tie.Need-same-length
 same-length c = search needs
 
 returns : tie.Need-returns
-returns c = cell-changed _ _ _ _ (c .before .before .before .before .before .args .how) (c .before .before .before .before .before .args .c) _ (c .before .before .before .before .before .pre .0) (c .before .before .before .before .before .pre .1 .0) (c .before .before .before .before .before .pre .1 .1 .0) ((c .before .before .before .before .before .pre .1 .1 .1) .1) refl (c .before .before .store-of-frame .ensures)
+returns c = cell-changed _ _ _ _ (c .before .before .before .before .before .args .how) (c .before .before .before .before .before .args .c) _ (c .before .before .before .before .before .pre .0) (c .before .before .before .before .before .pre .1 .0) (c .before .before .before .before .before .pre .1 .1 .0) ((c .before .before .before .before .before .pre .1 .1 .1) .1) refl
+    (c .before .before .store-of-frame .ensures)
 
 pub set-cell-spec : {M : Type 1} → statement M
 set-cell-spec =

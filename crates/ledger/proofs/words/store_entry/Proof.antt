@@ -24,7 +24,8 @@ same-length : tie.Need-same-length
 same-length c = search needs
 
 returns : tie.Need-returns
-returns c = ap word-of (c .before .before .store-word .ensures) ∙ word-stored (c .before .before .before .before .before .args .ram .now) (c .before .before .before .before .before .args .f) (c .before .before .before .before .before .pre .2) (c .before .before .before .before .before .args .i) (c .before .before .before .before .before .args .x) (c .before .before .before .before .before .pre .0) (omega arith)
+returns c = ap word-of (c .before .before .store-word .ensures) ∙ word-stored (c .before .before .before .before .before .args .ram .now) (c .before .before .before .before .before .args .f) (c .before .before .before .before .before .pre .2) (c .before .before .before .before .before .args .i) (c .before .before .before .before .before .args .x) (c .before .before .before .before .before .pre .0)
+    (omega arith)
 
 pub store-entry-spec : {M : Type 1} → statement M
 store-entry-spec =

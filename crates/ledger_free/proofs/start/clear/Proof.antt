@@ -32,8 +32,11 @@ loop-less : tie.Need-loop-less Inv-loop μ-loop
 loop-less c = omega (arith, c .before .loop .inv .2)
 
 loop-again : tie.Need-loop-again Inv-loop μ-loop
-loop-again c = let from : c .before .loop .i ≡ 0 + c .before .loop .i = omega arith in
-    (omega (arith, c .before .loop .inv .2), ap (λ (x : ℕ). set (c .before .loop .ledger) x 0) from ∙ cleared-more _ 0 _ (c .before .loop .inv .1), length-set (c .before .loop .ledger) (c .before .loop .i) 0 ∙ c .before .loop .inv .2)
+loop-again c = let from : c .before .loop .i ≡ 0 + c .before .loop .i = omega arith in (
+  omega (arith, c .before .loop .inv .2),
+  ap (λ (x : ℕ). set (c .before .loop .ledger) x 0) from ∙ cleared-more _ 0 _ (c .before .loop .inv .1),
+  length-set (c .before .loop .ledger) (c .before .loop .i) 0 ∙ c .before .loop .inv .2,
+)
 
 same-length : tie.Need-same-length Inv-loop μ-loop
 same-length c = omega (arith, c .before .loop .inv .2)
