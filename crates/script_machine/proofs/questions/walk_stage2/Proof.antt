@@ -2,7 +2,7 @@
 -- The slice has the machine's RAM.
 use Prim.Native.Nat.{_*_}
 use lib.Seq.{length-take-le}
-use Rattle.script_machine.specs.Machine.{frame-bytes}
+use Rattle.memory.specs.Ram.{frame-bytes}
 use borrow.Author.Needs.{needs}
 use mathlib.Core.Path.{sym}
 use Rattle.script_machine.proofs.questions.walk_stage2.Statement.{statement}

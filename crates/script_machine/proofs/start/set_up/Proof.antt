@@ -5,7 +5,7 @@ use mathlib.Core.Path.{_∙_, refl, sym}
 use lib.ListN.{length}
 use lib.Seq.{length-take-le}
 use Rattle.ledger.specs.Layout.{words-for}
-use Rattle.script_machine.specs.Machine.{frame-bytes}
+use Rattle.memory.specs.Ram.{frame-bytes}
 use Rattle.script_machine.proofs.Laws.Effects.{allowed, begun}
 use borrow.Author.Needs.{needs}
 use native.Mathlib.Omega.{arith}

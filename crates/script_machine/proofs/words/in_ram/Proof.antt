@@ -1,7 +1,8 @@
 -- Written by tools/prove from the file answers beside it: edit that, and not this.
 -- By the definition's tests.
 use Prim.Native.Nat.{_+_, _*_, _<_, _≤_}
-use Rattle.script_machine.specs.Machine.{frame-bytes, word-bytes, word-in-ram}
+use Rattle.memory.specs.Ram.{frame-bytes}
+use Rattle.script_machine.specs.Machine.{word-bytes, word-in-ram}
 use borrow.Author.Needs.{needs}
 use native.Mathlib.Omega.{arith}
 use borrow.Author.Tests.{lt-ltb, lt-leb, le-leb, le-ltb}
