@@ -88,7 +88,7 @@ pub record Setup-done (b n k : ℕ) (ram l ram′ l′ : List ℕ) : Type 0 wher
   pub rest : drop (words-for n) l′ ≡ drop (words-for n) l
 
 abbrev pub Setup-effect : Bool → (n b k : ℕ) → Machine → (ram ledger ram′ ledger′ : List ℕ) → Outcome → Type 0
-Setup-effect true n b k m ram l ram′ l′ r = (r ≡ outcome (machine-of b n true) (Number 0)) × Setup-done n b k ram l ram′ l′
+Setup-effect true n b k m ram l ram′ l′ r = (r ≡ outcome (machine-of b n true) (Number 0)) × Setup-done b n k ram l ram′ l′
 Setup-effect false n b k m ram l ram′ l′ r = Answers-only (Number out-of-range) m ram l ram′ l′ r
 
 -- `word A V`: "Writes them, lowest first". Where one of them is in a table, the monitor can count on RAM and ledger no longer.

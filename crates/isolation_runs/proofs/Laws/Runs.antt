@@ -41,7 +41,7 @@ begun-is {x} h = record {
   b = h .b;
   k = h .k;
   word = word-of (x .ram);
-  accepted = accepted (slices-fit (h .n) (x .ram) (h .ledger-before)) (h .n) (h .b) (h .k) (x .ram) (h .ledger-before) (x .ledger) (h .answered .outcome);
+  accepted = accepted (slices-fit (h .n) (x .ram) (h .ledger-before)) (h .b) (h .n) (h .k) (x .ram) (h .ledger-before) (x .ledger) (h .answered .outcome);
   fresh = h .fresh;
 }
 

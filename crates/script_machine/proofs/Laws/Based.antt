@@ -58,7 +58,7 @@ settled false s m l r m′ l′ h x = absurd (omega arith)
 pub started-so : (b n k : ℕ) (m l : List ℕ) (r : ℕ) (l′ : List ℕ) → refusal (S.setting-up b n k m l) ≡ 0
     → S.SetUp b n k m l r l′ → (r ≡ 0) × (first-of l′ ≡ b / frame-bytes)
 unfolding set-up
-started-so n b k m l r l′ h x =
+started-so b n k m l r l′ h x =
     let y = settled _ (started b n k (word-of m)) m l r m l′ h (x .outcome) in
     (y .0, unfold state-in started in ap (λ (q : State). q .first) (y .1))
 

@@ -13,7 +13,7 @@ use Rattle.memory.proofs.Laws.Ram.{Ram-fits, fits as place-fits, fits-so}
 use Rattle.memory.specs.Word.{stored-at, cleared-at}
 use Rattle.memory.proofs.Laws.Words.{length-kept, cleared-length}
 use Rattle.model.specs.State.{Frame-kind, monitor, free, table, draining-table, page, draining-page, tabled}
-use Rattle.model.specs.State.{sort}
+use Rattle.model.specs.State.{kind-number}
 use Rattle.ledger.specs.Layout.{words-for, first-of, kind-of}
 use Rattle.ledger.specs.Sound.{Sound}
 use Rattle.ledger.proofs.Laws.Beside.{word-beside}
@@ -69,7 +69,7 @@ allowed lent words n b k e =
     }
 
 -- a frame that holds a table, by the number of what it is
-by-sort : (x : Frame-kind) → tabled x ≡ (eqb (sort x) 2 || eqb (sort x) 3)
+by-sort : (x : Frame-kind) → tabled x ≡ (eqb (kind-number x) 2 || eqb (kind-number x) 3)
 by-sort monitor = refl
 by-sort free = refl
 by-sort (table g h p) = refl
@@ -77,7 +77,7 @@ by-sort (draining-table g h p) = refl
 by-sort (page g) = refl
 by-sort (draining-page g) = refl
 
-module _ (l : List ℕ) (f k : ℕ) (e : k ≡ sort (kind-of l f)) where
+module _ (l : List ℕ) (f k : ℕ) (e : k ≡ kind-number (kind-of l f)) where
   pub in-use : k ≡ 2 → true ≡ tabled (kind-of l f)
   in-use q = sym (by-sort (kind-of l f) ∙ rw (sym e, q))
 
@@ -136,7 +136,7 @@ module _ (n b k : ℕ) (m : Machine) (ram l : List ℕ) (e : allowed-of (length 
   fits = allowed (length ram / frame-bytes) (length l) n b k e
 
   pub begun : (answer : ℕ) (ram′ l₁ l′ : List ℕ) → ram′ ≡ cleared-at ram 0 (frame-bytes * n)
-      → S.SetUp n b k (take (frame-bytes * n) ram′) (take (words-for n) l) answer l₁
+      → S.SetUp b n k (take (frame-bytes * n) ram′) (take (words-for n) l) answer l₁
       → length l₁ ≡ length (take (words-for n) l) → l′ ≡ l₁ ++ drop (words-for n) l
       → Executed (SetUp n b k) m ram l ram′ l′ (outcome (machine-of b n true) (Number answer))
   begun answer ram′ l₁ l′ c x len f = record {
@@ -157,20 +157,20 @@ module _ (n b k : ℕ) (m : Machine) (ram l : List ℕ) (e : allowed-of (length 
       made =
           let a = length-take-le (frame-bytes * n) ram′ ram-within in
           let d = length-take-le (words-for n) l (fits .room) in
-          started-so n b k (take (frame-bytes * n) ram′) (take (words-for n) l) answer l₁
-          (sym (fits-all n b k (take (frame-bytes * n) ram′) (take (words-for n) l)
-          (lengths-fit n b k (take (frame-bytes * n) ram′) (take (words-for n) l) (omega arith) d)
+          started-so b n k (take (frame-bytes * n) ram′) (take (words-for n) l) answer l₁
+          (sym (fits-all b n k (take (frame-bytes * n) ram′) (take (words-for n) l)
+          (lengths-fit b n k (take (frame-bytes * n) ram′) (take (words-for n) l) (omega arith) d)
           (place-fits b n (fits .ram)) (fits .fewer))) x
 
       zero : answer ≡ 0
       zero = made .0
 
-      done : Setup-done n b k ram l ram′ l′
+      done : Setup-done b n k ram l ram′ l′
       done = record {
         cleared = c;
         started =
             rw ledger-is
-            (subst (λ (z : ℕ). S.SetUp n b k (take (frame-bytes * n) ram′) (take (words-for n) l) z l₁) zero x);
+            (subst (λ (z : ℕ). S.SetUp b n k (take (frame-bytes * n) ram′) (take (words-for n) l) z l₁) zero x);
         rest = rw f (rest _ l l₁ (fits .room) len);
       }
 
