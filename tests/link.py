@@ -5,7 +5,8 @@ it, and:
   alone   nothing more: programs for Arm link the library with nothing beside it
   c       cc and c++: the header is clean C and C++ and has the numbers that are proved, a dropped answer is warned of, the examples
           print what they should, and so does tests/digest.c
-  arm     Debian's gcc-aarch64-linux-gnu and qemu-user, on an Arm machine cc: tests/digest.c prints the same over both Arm libraries
+  arm     Debian's gcc-aarch64-linux-gnu and qemu-user, on an Arm machine cc: tests/digest.c prints the same over both Arm libraries,
+          and tests/stores.c catches each store of theirs to RAM
   rust    cc and cargo: the examples in Rust, and the crate host/ beside a second implementation of documents 01 and 03
   stores  the same, on x86-64: each store of the library to RAM, caught and looked at (host/tests/stores)
 """
@@ -146,11 +147,26 @@ def check_c(count, work):
     count.check("support/memory.c beside the C library's", run(command) or run([f"{work}/memory"], "23960 of 23960 agree\n"))
 
 
+def caught(folder, work, compiler, runner, words, wrong=None):
+    """What is wrong with what tests/stores.c makes of a library, or None; where it must find something wrong, it must say so."""
+    program = f"{work}/stores"
+    sources = ["-Iout/include", "tests/stores.c", f"out/{folder}/libpageledger.a"]
+    if problem := run([*compiler, "-std=c99", "-O2", *STRICT, *words, *sources, "-o", program]):
+        return problem
+    problem = run([*runner, program])
+    return problem if not wrong else None if problem and run.printed == f"{wrong}\n" else f"it says {run.printed!r}"
+
+
 def check_arm(count, work):
     native = platform.machine() == "aarch64"
     compiler, runner = (["cc", "-static"], []) if native else (["aarch64-linux-gnu-gcc", "-static"], ["qemu-aarch64"])
     for folder in ("aarch64-linux", "aarch64-none-elf"):
         count.check(f"the answers of out/{folder}", digest(folder, work, compiler, runner))
+    # On bare metal memset is the library's own, and each of its stores is caught.
+    for folder, many, words in (("aarch64-linux", 20000, ["-DOF_THE_PROGRAM"]), ("aarch64-none-elf", 1000, [])):
+        words, wrong = [*words, f"-DWATCHED={many}"], "a descriptor is not stored as the list has it"
+        count.check(f"the stores of out/{folder}", caught(folder, work, compiler, runner, words))
+        count.check(f"wrong stores with out/{folder}", caught(folder, work, compiler, runner, [*words, "-DWRONG"], wrong))
 
 
 def cargo(*words, expected=None):
