@@ -60,8 +60,8 @@ class Night:
         self.walks, self.operations = collections.Counter(), collections.Counter()
 
     def round(self, seed):
-        for test in TESTS:
-            done, seen, seconds = run(test, seed)
+        """All tests with one seed; one that is cut off counts for nothing."""
+        for test, (done, seen, seconds) in {test: run(test, seed) for test in TESTS}.items():
             self.done[test] += done
             self.seconds[test] += seconds
             (self.walks if test == "walks" else self.operations).update(seen)

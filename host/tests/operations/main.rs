@@ -14,6 +14,7 @@ mod document;
 #[path = "../document/monitor.rs"]
 mod document_03;
 mod faces;
+mod list;
 mod run;
 mod seen;
 mod shape;

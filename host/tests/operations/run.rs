@@ -1,10 +1,11 @@
 //! One run: steps on a subject, each held to document 03 at once.
 use crate::caches::{Caches, Translation};
 use crate::common::Random;
-use crate::document_03::{Kind, Monitor, Stored};
+use crate::document_03::{Kind, Monitor};
+use crate::list::{listed, pieces};
 use crate::seen::Seen;
 use crate::steps::{addresses, get_back, Operation, Steps};
-use crate::subject::{Frame, Store, Subject};
+use crate::subject::{Frame, Subject};
 use pageledger::{Access, Answer};
 use std::collections::{BTreeSet, VecDeque};
 
@@ -23,7 +24,7 @@ pub struct Run<'a, S> {
     pub by_list: bool,
 }
 
-fn hold(holds: bool, problem: impl FnOnce() -> String) -> Result<(), String> {
+pub fn hold(holds: bool, problem: impl FnOnce() -> String) -> Result<(), String> {
     if holds { Ok(()) } else { Err(problem()) }
 }
 
@@ -34,40 +35,6 @@ fn same<T: PartialEq + std::fmt::Debug>(what: impl FnOnce() -> String, subject: 
 /// The first frame in which two images differ.
 fn difference(a: &[u8], b: &[u8]) -> Option<usize> {
     if a == b { None } else { Some((0..a.len()).find(|at| a[*at] != b[*at]).unwrap() / 4096) }
-}
-
-/// What was stored at once, in words where it is longer, as a memset is: each with its place.
-fn pieces(store: &Store) -> impl Iterator<Item = (usize, &[u8])> {
-    store.bytes.chunks(8).enumerate().map(|(at, word)| (store.at + 8 * at, word))
-}
-
-/// The stores that were made are those of the list. A descriptor is stored whole, by one aligned store of eight bytes; a frame is
-/// cleared by any stores of zeros in it, until all its bytes are.
-fn listed(list: &[Stored], stores: &[Store], base: u64) -> Result<(), String> {
-    let mut rest = stores.iter();
-    for wanted in list {
-        match *wanted {
-            Stored::Word { address, word } => {
-                let at = (address - base) as usize;
-                let store = rest.next();
-                let so = store.is_some_and(|store| at % 8 == 0 && store.at == at && store.bytes == word.to_le_bytes());
-                hold(so, || format!("the list has {word:x} at {address:x}, and the store is {store:x?}"))?;
-            }
-            Stored::Cleared { f } => {
-                let mut left = vec![true; 4096];
-                while left.contains(&true) {
-                    let store = rest.next();
-                    let inside = |store: &&Store| store.at / 4096 == f as usize && store.at % 4096 + store.bytes.len() <= 4096;
-                    let zeros = |store: &&Store| !store.bytes.is_empty() && store.bytes.iter().all(|byte| *byte == 0);
-                    let part = store.filter(inside).filter(zeros);
-                    let part = part.ok_or_else(|| format!("the list clears frame {f}, and the store is {store:x?}"))?;
-                    left[part.at % 4096..][..part.bytes.len()].fill(false);
-                }
-            }
-        }
-    }
-    let more = rest.next();
-    hold(more.is_none(), || format!("the list is done, and there is a store {more:x?}"))
 }
 
 const ACCESSES: [Access; 3] = [Access::Read, Access::Write, Access::Execute];

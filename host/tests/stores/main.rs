@@ -15,6 +15,8 @@ mod document;
 mod document_03;
 mod lent;
 mod libraries;
+#[path = "../operations/list.rs"]
+mod list;
 #[path = "../operations/run.rs"]
 mod run;
 #[path = "../operations/seen.rs"]
