@@ -8,11 +8,12 @@
  * is said there and nothing else, reads and writes inside the arrays that it is lent, and returns. The proof is of the source, against
  * definitions; docs/TRUST.md lists what else must be true, the compiler first.
  *
- * What is checked of the compiled library and not proved (tests/objects.py, tests/link.py): as compiled for Arm it uses less than
- * 1 KiB of stack, reads a descriptor by one 64-bit load and writes it by one 64-bit store (so that none is seen half-written where
- * `ram` lies at a multiple of 8), and clears a new table before it links it; on bare metal that store is a store-release, STLR, and
- * no vector register is used; every build answers the same to the same calls. No function calls back, waits, or uses a heap, global
- * state, a lock or floating point.
+ * What is checked of the compiled library and not proved (tests/objects.py, tests/link.py, host/tests/stores): an operation makes
+ * the stores to RAM that its definition lists, in that order, and no others; as compiled for Arm it uses less than 1 KiB of stack,
+ * reads a descriptor by one 64-bit load and writes it by one 64-bit store (so that none is seen half-written where `ram` lies at a
+ * multiple of 8), and clears a new table before it links it; on bare metal that store is a store-release, STLR, and no vector
+ * register is used; every build answers the same to the same calls. No function calls back, waits, or uses a heap, global state, a
+ * lock or floating point.
  *
  * What a caller sees to, of every call:
  *   - an array is a pointer and its number of elements. The pointer is valid for that many elements during the call, aligned for

@@ -1,5 +1,6 @@
 #!/usr/bin/env python3
-"""Checks of the command ./pageledger itself: the tour, its ways to take a script, its refusals, its build; and of --help of all four."""
+"""Checks of the command ./pageledger itself: the tour, its ways to take a script, its pictures, its refusals, its build; and of --help
+of all four."""
 
 import pathlib
 import re
@@ -7,6 +8,7 @@ import shutil
 import subprocess
 import tempfile
 import textwrap
+import xml.etree.ElementTree
 
 import tally
 
@@ -16,6 +18,18 @@ BUILT = HERE.parent / "target" / "bin" / "pageledger"
 SCRIPT = HERE / "scripts" / "worked-image.script"
 ANSWERS = SCRIPT.with_suffix(".expected").read_bytes()
 PAGES = [HERE.parent / page for page in ("README.md", "docs/SCRIPT.md", "docs/REFERENCE.md")]
+PICTURED, PICTURE = HERE.parent / "tour/picture.script", HERE.parent / "docs/picture.svg"
+# Scripts, and texts that a picture of what they leave must have: the last set-up that fits, the most frames, a guest that is gone.
+STATES = {
+    "setup 16 0 0\nsetup 20 0x2000 2\ncreate 1\nsetup 16 0x7000 99": ["20 frames from 0x2000: 2 the monitor's, 17 free, 1 table, "
+                                                                     "0 pages, 0 draining", "guest 1: 0 pages, 1 table"],
+    "setup 1024 0xfffffffc00000 0\nsetup 1024 0xffffffc00000 1\ncreate 4\ngive 1023 4\nmap 1023 4 0xfffffffff000 5\nshare 4 1023 4 1":
+        ["1024 frames from 0xffffffc00000: 1 the monitor's, 1018 free, 4 tables, 1 page, 0 draining", "0xffffffe00000 to 0xffffffffffff",
+         "0xfffffffff000", "frame 1023", "r-x", "Shared: nothing", "Draining: nothing"],
+    "setup 16 4096 0\ncreate 1\ncreate 2\ncreate 3\ngive 9 1\ngive 10 1\nshare 1 9 2 1\nshare 1 10 2 1\ndestroy 3":
+        ["guest 1: 2 pages, 1 table", "guest 3 does not exist", "dirty", "guest 1 shares frames 9 to 10 with guest 2 (to write too)",
+         "frame 2 for guest 3, until its invalidation is reported"],
+}
 
 
 def refused(*words, command=COMMAND, **how):
@@ -47,6 +61,31 @@ def check_sessions(count):
         count.check(f"sessions in {page.name}", None if found else "there are none")
         for name, script, printed in found:
             count.check(f"{name} in {page.name}", tally.problem([COMMAND, "--built", "-"], printed, input=script))
+
+
+def pictured(script, texts):
+    """What is wrong with the picture of what a script leaves: it must be XML, and have these texts and a cell for each frame."""
+    ran = subprocess.run([COMMAND, "--built", "--picture", "-"], input=script.encode(), stdout=subprocess.PIPE)
+    if ran.returncode:
+        return f"ended with status {ran.returncode}"
+    parts = list(xml.etree.ElementTree.fromstring(ran.stdout).iter())
+    has = [part.text for part in parts if part.tag.endswith("text")]
+    cells = sum(part.get("class") in ("cell", "free", "idle") for part in parts)
+    missing = [text for text in texts if text not in has]
+    frames = int(texts[0].split()[0]) if "frames from" in texts[0] else 16
+    return f"it does not say {missing}" if missing else f"{cells} cells" if cells < frames else None
+
+
+def check_pictures(count):
+    count.check("today's picture", tally.problem([COMMAND, "--built", "--picture", PICTURED], PICTURE.read_bytes()))
+    for script, texts in STATES.items():
+        count.check(f"a picture: {texts[0]}", pictured(script, texts))
+    count.check("a picture of nothing", refused("--built", "--picture", "/dev/null"))
+    count.check("a picture of no file", refused("--built", "--picture", HERE / "none"))
+    with tempfile.NamedTemporaryFile("w", suffix=".script") as file:
+        file.write("setup 16 0 0\ncreate 1\nword 0 1\n")
+        file.flush()
+        count.check("a picture without a ledger", refused("--built", "--picture", file.name))
 
 
 def second_start():
@@ -93,6 +132,7 @@ def main():
     count, nothing = tally.Tally(), subprocess.DEVNULL
     count.check("the tour", tour())
     check_sessions(count)
+    check_pictures(count)
     count.check("a second start", second_start())
     count.check("a script from standard input", tally.problem([COMMAND, "-"], ANSWERS, stdin=SCRIPT.open()))
     with tempfile.TemporaryDirectory() as folder:

@@ -7,7 +7,9 @@ it, and:
           print what they should, and so does tests/digest.c
   arm     Debian's gcc-aarch64-linux-gnu and qemu-user, on an Arm machine cc: tests/digest.c prints the same over both Arm libraries,
           and pageledger_arm.h is clean C
+          and tests/stores.c catches each store of theirs to RAM
   rust    cc and cargo: the examples in Rust, and the crate host/ beside a second implementation of documents 01 and 03
+  stores  the same, on x86-64: each store of the library to RAM, caught and looked at (host/tests/stores)
 """
 
 import os
@@ -29,6 +31,8 @@ IN_C = {"walk": WALK, "monitor": MONITOR + ", STILL_USED\n"}
 IN_RUST = {"walk": WALK, "monitor": MONITOR + ": the page is still mapped or shared\n"}
 HOST_TESTS = {"walks", "sizes", "worked_image", "operations", "wrong_answers", "cases::section_5", "cases::runs_out", "cases::set_up",
               "cases::questions", "cases::most_frames", "faces::refusals", "faces::rights", "faces::pages", "faces::between_threads"}
+STORE_TESTS = {"lent::each_store_is_caught": "each store to RAM is caught", "wrong_libraries": "wrong libraries are refused",
+               "stores": "the library's stores are the list's, and nothing is reached after any"}
 STRICT = ["-Wall", "-Wextra", "-pedantic", "-Werror"]
 STANDARDS = (("cc", "c", "c99"), ("cc", "c", "c11"), ("cc", "c", "c2x"), ("c++", "c++", "c++11"), ("c++", "c++", "c++17"))
 
@@ -157,6 +161,16 @@ def check_c(count, work):
     count.check("support/memory.c beside the C library's", run(command) or run([f"{work}/memory"], "23960 of 23960 agree\n"))
 
 
+def caught(folder, work, compiler, runner, words, wrong=None):
+    """What is wrong with what tests/stores.c makes of a library, or None; where it must find something wrong, it must say so."""
+    program = f"{work}/stores"
+    sources = ["-Iout/include", "tests/stores.c", f"out/{folder}/libpageledger.a"]
+    if problem := run([*compiler, "-std=c99", "-O2", *STRICT, *words, *sources, "-o", program]):
+        return problem
+    problem = run([*runner, program])
+    return problem if not wrong else None if problem and run.printed == f"{wrong}\n" else f"it says {run.printed!r}"
+
+
 def check_arm(count, work):
     native = platform.machine() == "aarch64"
     compiler, runner = (["cc", "-static"], []) if native else (["aarch64-linux-gnu-gcc", "-static"], ["qemu-aarch64"])
@@ -164,23 +178,44 @@ def check_arm(count, work):
         count.check(f"the answers of out/{folder}", digest(folder, work, compiler, runner))
     for standard in ("c99", "c11", "c2x"):
         count.check(f"pageledger_arm.h as {standard}", for_arm(compiler[:1], "c", standard))
+    # On bare metal memset is the library's own, and each of its stores is caught.
+    for folder, many, words in (("aarch64-linux", 20000, ["-DOF_THE_PROGRAM"]), ("aarch64-none-elf", 1000, [])):
+        words, wrong = [*words, f"-DWATCHED={many}"], "a descriptor is not stored as the list has it"
+        count.check(f"the stores of out/{folder}", caught(folder, work, compiler, runner, words))
+        count.check(f"wrong stores with out/{folder}", caught(folder, work, compiler, runner, [*words, "-DWRONG"], wrong))
 
 
-def check_rust(count, _):
-    cargo = {"CARGO_TARGET_DIR": str(HERE / "target/host"), "CARGO_NET_OFFLINE": "true"}
-    for name, expected in IN_RUST.items():
-        command = ["cargo", "run", "--quiet", "--manifest-path", "examples/rust/Cargo.toml", "--bin", name]
-        count.check(f"examples/rust, {name}", run(command, expected, **cargo))
-    command = ["cargo", "test", "--manifest-path", "host/Cargo.toml", "--", "--nocapture", "--test-threads=1"]
-    problem = run(command, **cargo)
+def cargo(*words, expected=None):
+    """Runs cargo, as run does."""
+    return run(["cargo", *words], expected, CARGO_TARGET_DIR=str(HERE / "target/host"), CARGO_NET_OFFLINE="true")
+
+
+def host_tests(*words):
+    """Runs tests of host/ and shows what they counted: what went wrong, and those that ended well."""
+    problem = cargo("test", "--manifest-path", "host/Cargo.toml", *words, "--", "--nocapture", "--test-threads=1")
     for line in run.printed.splitlines():
         if re.match(r" *\d+ [a-z]|seed ", line):
             print(line)
-    ran = set(re.findall(r"^test ([\w:]+) \.\.\.", run.printed, re.M))
-    count.check("host/ builds, and its tests run", problem or (None if HOST_TESTS <= ran else f"ran {sorted(ran)}"))
+    # What a test prints stands between its name and its end.
+    parts = re.split(r"^test ([\w:]+) \.\.\.", run.printed, flags=re.M)
+    return problem, {name for name, rest in zip(parts[1::2], parts[2::2]) if re.search(r"(^| )ok$", rest, re.M)}
 
 
-PARTS = {"alone": check_alone, "c": check_c, "arm": check_arm, "rust": check_rust}
+def check_rust(count, _):
+    for name, expected in IN_RUST.items():
+        problem = cargo("run", "--quiet", "--manifest-path", "examples/rust/Cargo.toml", "--bin", name, expected=expected)
+        count.check(f"examples/rust, {name}", problem)
+    problem, well = host_tests()
+    count.check("host/ builds, and its tests run", problem or (None if HOST_TESTS <= well else f"ran {sorted(well)}"))
+
+
+def check_stores(count, _):
+    problem, well = host_tests("--test", "stores")
+    for name, what in STORE_TESTS.items():
+        count.check(what, None if name in well else problem or f"{name} did not run")
+
+
+PARTS = {"alone": check_alone, "c": check_c, "arm": check_arm, "rust": check_rust, "stores": check_stores}
 
 
 def main(parts):

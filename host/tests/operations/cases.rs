@@ -2,7 +2,8 @@
 use crate::common::{setting, told, Random};
 use crate::document;
 use crate::document_03::{Kind, Monitor};
-use crate::run::{Run, Seen};
+use crate::run::Run;
+use crate::seen::Seen;
 use crate::steps::Operation::{self, *};
 use crate::subject::Subject;
 use crate::Shape;

@@ -15,6 +15,23 @@ pub enum Frame {
     Draining { of: u64 },
 }
 
+impl From<&Kind> for Frame {
+    fn from(kind: &Kind) -> Frame {
+        match kind {
+            Kind::Monitor => Frame::Monitor,
+            Kind::Free => Frame::Free,
+            Kind::Table { of } => Frame::Table { of: *of },
+            Kind::Draining { of, .. } => Frame::Draining { of: *of },
+            Kind::Page(page) => Frame::Page {
+                owner: page.owner,
+                readers: page.readers.clone(),
+                writers: page.writers.clone(),
+                places: page.places.len() as u64,
+            },
+        }
+    }
+}
+
 #[derive(Clone, Copy, Debug, PartialEq, Eq)]
 pub struct Guest {
     pub root: Option<u64>,
@@ -34,6 +51,17 @@ pub trait Subject {
     fn load(&self, g: u64, ipa: u64, bytes: &mut [u8]) -> bool;
     /// A store by a translation that the processor kept; the frame is a page, or drains and was one.
     fn store_kept(&mut self, f: u64, offset: usize, bytes: &[u8]);
+    /// The single stores to RAM of the last operation, where somebody has watched.
+    fn stores(&self) -> Option<&[Store]> {
+        None
+    }
+}
+
+/// Bytes that were stored at once, `at` bytes into RAM. None where what was stored depends on what was there.
+#[derive(Clone, Debug, PartialEq, Eq)]
+pub struct Store {
+    pub at: usize,
+    pub bytes: Vec<u8>,
 }
 
 fn number(answer: Result<(), Refusal>) -> u64 {
@@ -106,6 +134,7 @@ impl Subject for pageledger::Monitor<'_> {
 
 impl Monitor {
     pub fn run(&mut self, operation: Operation, choose: Choose) -> u64 {
+        self.stores.clear();
         let answer = match operation {
             Operation::Create { g } => self.create(g, choose),
             Operation::Give { f, g } => self.give(f, g),
@@ -146,18 +175,7 @@ impl Subject for Monitor {
     }
 
     fn frame(&self, f: u64) -> Frame {
-        match &self.frames[f as usize] {
-            Kind::Monitor => Frame::Monitor,
-            Kind::Free => Frame::Free,
-            Kind::Table { of } => Frame::Table { of: *of },
-            Kind::Draining { of, .. } => Frame::Draining { of: *of },
-            Kind::Page(page) => Frame::Page {
-                owner: page.owner,
-                readers: page.readers.clone(),
-                writers: page.writers.clone(),
-                places: page.places.len() as u64,
-            },
-        }
+        Frame::from(&self.frames[f as usize])
     }
 
     fn guest(&self, g: u64) -> Guest {
