@@ -1,7 +1,8 @@
 #!/usr/bin/env python3
-"""Checks of the command ./pageledger itself: the tour, its ways to take a script, its refusals, its build."""
+"""Checks of the command ./pageledger itself: the tour, its ways to take a script, its refusals, its build; and of --help of all four."""
 
 import pathlib
+import re
 import shutil
 import subprocess
 import tempfile
@@ -12,8 +13,9 @@ import tally
 HERE = pathlib.Path(__file__).resolve().parent
 COMMAND = HERE.parent / "pageledger"
 BUILT = HERE.parent / "target" / "bin" / "pageledger"
-SCRIPT = HERE / "worked-image.script"
+SCRIPT = HERE / "scripts" / "worked-image.script"
 ANSWERS = SCRIPT.with_suffix(".expected").read_bytes()
+PAGES = [HERE.parent / page for page in ("README.md", "docs/SCRIPT.md", "docs/REFERENCE.md")]
 
 
 def refused(*words, command=COMMAND, **how):
@@ -25,21 +27,26 @@ def refused(*words, command=COMMAND, **how):
 
 
 def tour():
-    page = (HERE / "tour.page").read_bytes()
+    page = (HERE / "scripts" / "tour.page").read_bytes()
     wide = [line for line in page.decode().splitlines() if len(line) > 80]
     if wide:
         return f"wider than 80 columns: {wide}"
     return tally.problem([COMMAND], page, stdin=subprocess.DEVNULL)
 
 
-def session():
-    """A problem unless the session that README.md shows is what happens."""
-    shown = (HERE.parent / "README.md").read_text().partition("    $ cat self.script\n")[2]
-    script, _, printed = shown.partition("\n\n")[0].partition("    $ ./pageledger self.script\n")
-    script, printed = (textwrap.dedent(part).encode() for part in (script, printed + "\n"))
-    if b"setup" not in script:
-        return "there is none"
-    return tally.problem([COMMAND, "-"], printed, input=script)
+def sessions(page):
+    """The sessions that a page shows: the name of each, its script and what is printed, as bytes."""
+    shown = re.findall(r"^    \$ cat (\S+)\n((?:    .*\n)*?)    \$ \./pageledger \1\n((?:    .*\n)+)", page.read_text(), re.M)
+    return [(name, *(textwrap.dedent(part).encode() for part in parts)) for name, *parts in shown]
+
+
+def check_sessions(count):
+    """Each session of a page must be what happens, and a page must have some."""
+    for page in PAGES:
+        found = sessions(page)
+        count.check(f"sessions in {page.name}", None if found else "there are none")
+        for name, script, printed in found:
+            count.check(f"{name} in {page.name}", tally.problem([COMMAND, "--built", "-"], printed, input=script))
 
 
 def second_start():
@@ -54,15 +61,38 @@ def second_start():
 
 def without_rt(place):
     """A problem where the command does not say that rt is missing."""
-    for tool in ("dirname", "readlink"):
-        (place / tool).symlink_to(shutil.which(tool))
     return refused(SCRIPT, env={"PATH": str(place)})
+
+
+def bare(command, place, *words):
+    """Runs one of our commands where there is no rt, so that all it can do is to look at its words."""
+    command = [HERE.parent / command, *words]
+    return subprocess.run(command, stdin=subprocess.DEVNULL, capture_output=True, text=True, env={"PATH": str(place)})
+
+
+def helps(command, place):
+    """A problem unless it prints its use on a narrow page, and ends with 0."""
+    ran = bare(command, place, "--help")
+    lines = ran.stdout.splitlines()
+    if ran.returncode or ran.stderr or not ran.stdout.startswith(f"usage: {command} "):
+        return f"status {ran.returncode}, printed {ran.stdout[:80]!r}, said {ran.stderr[:80]!r}"
+    if "--help" not in ran.stdout or len(lines) < 5 or max(map(len, lines)) > 80:
+        return f"{len(lines)} lines, the longest of {max(map(len, lines))} letters"
+    return None
+
+
+def wrong_word(command, place):
+    """A problem unless a word that it does not know makes it say its use, and do nothing."""
+    ran = bare(command, place, "--no-such", "word")
+    if not ran.returncode or ran.stdout or not ran.stderr.startswith(f"{command}: usage: {command} "):
+        return f"status {ran.returncode}, printed {ran.stdout[:80]!r}, said {ran.stderr[:80]!r}"
+    return None
 
 
 def main():
     count, nothing = tally.Tally(), subprocess.DEVNULL
     count.check("the tour", tour())
-    count.check("the session in README.md", session())
+    check_sessions(count)
     count.check("a second start", second_start())
     count.check("a script from standard input", tally.problem([COMMAND, "-"], ANSWERS, stdin=SCRIPT.open()))
     with tempfile.TemporaryDirectory() as folder:
@@ -76,7 +106,12 @@ def main():
         shutil.copy(COMMAND, place / "pageledger")
         count.check("nothing was built", refused("--built", SCRIPT, command=place / "pageledger"))
         count.check("a folder", refused(place))
+        for tool in ("cat", "dirname", "readlink"):
+            (place / tool).symlink_to(shutil.which(tool))
         count.check("no rt", without_rt(place))
+        for command in ("pageledger", "test", "build", "bench"):
+            count.check(f"{command} --help", helps(command, place))
+            count.check(f"{command} with a word that it does not know", wrong_word(command, place))
     count.check("an empty name", refused(""))
     count.check("two files", refused(SCRIPT, SCRIPT))
     count.finish()

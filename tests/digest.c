@@ -3,6 +3,7 @@
  * host/ holds to a second implementation of documents 01 and 03. */
 #include <inttypes.h>
 #include <stdio.h>
+#include <stdlib.h>
 #include "pageledger.h"
 
 enum { FRAMES = 64, WALKS = 100000, ROUNDS = 4, OPERATIONS = 10000, PLACES = 12 };
@@ -34,20 +35,29 @@ static void take_in_all(const uint64_t *x, size_t n)
         take_in(x[i]);
 }
 
+/* Every array here has room for its answer. */
+static void has_room(uint64_t status)
+{
+    if (status != PAGELEDGER_DONE) {
+        printf("status %" PRIu64 "\n", status);
+        exit(1);
+    }
+}
+
 /* RAM word by word; of the ledger what can be asked of it, since how it lies there is no promise. */
 static void take_in_state(void)
 {
-    uint64_t answer[3];
+    uint64_t answer[PAGELEDGER_ANSWER_NUMBERS];
     take_in_all(words, sizeof words / sizeof *words);
     for (uint64_t f = 0; f < FRAMES; f++) {
-        pageledger_frame(BOTH, f, answer, 3);
-        take_in_all(answer, 3);
+        has_room(pageledger_frame(BOTH, f, answer, PAGELEDGER_FRAME_NUMBERS));
+        take_in_all(answer, PAGELEDGER_FRAME_NUMBERS);
         for (uint64_t g = 1; g <= PAGELEDGER_GUESTS; g++)
             take_in(pageledger_shared_with(BOTH, f, g));
     }
     for (uint64_t g = 1; g <= PAGELEDGER_GUESTS; g++) {
-        pageledger_guest(BOTH, g, answer, 3);
-        take_in_all(answer, 3);
+        has_room(pageledger_guest(BOTH, g, answer, PAGELEDGER_GUEST_NUMBERS));
+        take_in_all(answer, PAGELEDGER_GUEST_NUMBERS);
     }
 }
 
@@ -77,8 +87,9 @@ static void walk_at_random(void)
     uint64_t answer[PAGELEDGER_ANSWER_NUMBERS], root1 = 4096 * random_below(FRAMES), root2 = base + 4096 * random_below(FRAMES);
     uint64_t va = number((uint64_t)1 << 48), access = number(3), el = number(2);
     words[random_below(sizeof words / sizeof *words)] = descriptor();
-    take_in(random_below(2) ? pageledger_stage2(RAM, base, FRAMES, root2, va, access, answer, PAGELEDGER_ANSWER_NUMBERS)
-                            : pageledger_both_stages(RAM, base, FRAMES, root1 + base, root2, va, access, el, answer, PAGELEDGER_ANSWER_NUMBERS));
+    take_in(random_below(2)
+            ? pageledger_stage2(RAM, base, FRAMES, root2, va, access, answer, PAGELEDGER_ANSWER_NUMBERS)
+            : pageledger_both_stages(RAM, base, FRAMES, root1 + base, root2, va, access, el, answer, PAGELEDGER_ANSWER_NUMBERS));
     take_in_all(answer, PAGELEDGER_ANSWER_NUMBERS);
     seen[4 * (answer[PAGELEDGER_ANSWER_WHAT] & 3) + (answer[PAGELEDGER_ANSWER_LEVEL] & 3)]++;
 }
@@ -101,9 +112,10 @@ static uint64_t operate_at_random(void)
 
 static void ask_at_random(void)
 {
-    uint64_t answer[PAGELEDGER_ANSWER_NUMBERS] = {0}, f = number(FRAMES + 1), g = number(5), a = number(PLACES) * 0x40201000, access = number(3);
+    uint64_t answer[PAGELEDGER_ANSWER_NUMBERS] = {0}, *second = answer + PAGELEDGER_FRAME_NUMBERS;
+    uint64_t f = number(FRAMES + 1), g = number(5), a = number(PLACES) * 0x40201000, access = number(3);
     take_in(pageledger_frame(BOTH, f, answer, PAGELEDGER_ANSWER_NUMBERS));
-    take_in(pageledger_guest(BOTH, g, answer + 3, PAGELEDGER_ANSWER_NUMBERS - 3));
+    take_in(pageledger_guest(BOTH, g, second, PAGELEDGER_ANSWER_NUMBERS - PAGELEDGER_FRAME_NUMBERS));
     take_in(pageledger_shared_with(BOTH, f, g));
     take_in_all(answer, PAGELEDGER_ANSWER_NUMBERS);
     take_in(pageledger_translation(BOTH, g, a, access, answer, PAGELEDGER_ANSWER_NUMBERS));
@@ -118,7 +130,7 @@ int main(void)
         walk_at_random();
     show("walks", WALKS);
     for (int round = 0; round < ROUNDS; round++) {
-        take_in(pageledger_set_up(BOTH, FRAMES, base, 2));
+        take_in(pageledger_set_up(BOTH, base, FRAMES, 2));
         for (int i = 0; i < OPERATIONS; i++) {
             uint64_t answered = operate_at_random();
             take_in(answered);

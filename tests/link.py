@@ -1,25 +1,35 @@
 #!/usr/bin/env python3
-"""link.py: the header is clean C and C++, the examples link the library and print what they should, programs for Arm link it with
-nothing beside it, the same walks and operations come out alike on x86-64 and on Arm, and the Rust crate agrees with a second
-implementation of documents 01 and 03. Wants the kit, cc, c++ and cargo, and out/ as ./build writes it; and for Arm on another
-machine, where they are there, Debian's gcc-aarch64-linux-gnu and qemu-user."""
+"""link.py [PART...]: programs link the library and run. The parts, all of them where none is named, want the kit, out/ as ./build writes
+it, and:
+
+  alone   nothing more: programs for Arm link the library with nothing beside it
+  c       cc and c++: the header is clean C and C++ and has the numbers that are proved, a dropped answer is warned of, the examples
+          print what they should, and so does tests/digest.c
+  arm     Debian's gcc-aarch64-linux-gnu and qemu-user, on an Arm machine cc: tests/digest.c prints the same over both Arm libraries
+  rust    cc and cargo: the examples in Rust, and the crate host/ beside a second implementation of documents 01 and 03
+"""
 
 import os
 import pathlib
 import platform
 import re
-import shutil
 import subprocess
+import sys
 import tempfile
 
+import header
 import tally
 
 HERE = pathlib.Path(__file__).resolve().parent.parent
-# The examples, in C and in Rust, and what each prints.
-EXAMPLES = {"walk": "0x40001abc fetched 4\n", "monitor": "0x40008abc fetched 4\ntake answers 13\n"}
+HOST = f"{platform.machine()}-linux"
+# What each example prints, in C and in Rust.
+WALK, MONITOR = "0x40001abc fetched 4\n", "0x40008abc fetched 4\ntake answers 13"
+IN_C = {"walk": WALK, "monitor": MONITOR + ", STILL_USED\n"}
+IN_RUST = {"walk": WALK, "monitor": MONITOR + ": the page is still mapped or shared\n"}
 HOST_TESTS = {"walks", "sizes", "worked_image", "operations", "wrong_answers", "cases::section_5", "cases::runs_out", "cases::set_up",
-              "cases::questions", "cases::most_frames"}
+              "cases::questions", "cases::most_frames", "faces::refusals", "faces::rights", "faces::pages", "faces::between_threads"}
 STRICT = ["-Wall", "-Wextra", "-pedantic", "-Werror"]
+STANDARDS = (("cc", "c", "c99"), ("cc", "c", "c11"), ("cc", "c", "c2x"), ("c++", "c++", "c++11"), ("c++", "c++", "c++17"))
 
 
 def run(command, expected=None, **environment):
@@ -38,13 +48,59 @@ def run(command, expected=None, **environment):
     return None
 
 
+def numbers_differ():
+    """What the definitions and the code of crate c_answers call a number, and the header calls by the same name another."""
+    crate, known = HERE / "crates/c_answers", header.numbers()
+    defined = re.findall(r"^([a-z][a-z-]*) = (\d+)$", (crate / "specs/Numbers.antt").read_text(), re.M)
+    coded = re.findall(r"^pub const (\w+): \w+ = (\d+);$", (crate / "src/numbers.rt").read_text(), re.M)
+    for numbers in (defined, coded):
+        other = [name for name, value in numbers if known.get(name.upper().replace("-", "_")) != int(value)]
+        if other or not numbers:
+            return f"not as in the header, or none found: {other}"
+    return None
+
+
+def versions_differ():
+    """The header's version as a number and as text, and that of the Rust crate."""
+    text = re.search(r'^#define PAGELEDGER_VERSION_STRING "(\d+)\.(\d+)\.(\d+)"$', header.text(), re.M)
+    number = re.search(r"^#define PAGELEDGER_VERSION (0x[0-9a-f]{6})$", header.text(), re.M)
+    crate = re.search(r'^version = "([\d.]+)"$', (HERE / "host/Cargo.toml").read_text(), re.M)
+    if not (text and number and crate):
+        return "there is one without a version"
+    major, minor, patch = map(int, text.groups())
+    same = int(number[1], 16) == major << 16 | minor << 8 | patch and crate[1] == f"{major}.{minor}.{patch}"
+    return None if same else f"{text[0]}, {number[0]}, and the Rust crate is {crate[1]}"
+
+
+def refusal_names(work):
+    """Each refusal's name is the header's own name for it, and no other number has one."""
+    known = {value: name for name, value in {**header.numbers("refusal"), "DONE": 0}.items()}
+    source, program = pathlib.Path(work, "names.c"), f"{work}/names"
+    source.write_text('#include <stdio.h>\n#include "pageledger.h"\n'
+                      "int main(void) { for (uint64_t i = 0; i < 100; i++) puts(pageledger_refusal_name(i)); return 0; }\n")
+    expected = "".join(f"{known.get(i, 'UNKNOWN')}\n" for i in range(100))
+    return run(["cc", "-std=c99", *STRICT, "-Iout/include", source, "-o", program]) or run([program], expected)
+
+
+def dropped_answer(compiler, language, standard, work):
+    """A program that drops an answer does not compile where warnings are errors, for that reason and for no other."""
+    for drops, call in ((False, "return (int)%s;"), (True, "%s; return 0;")):
+        source = pathlib.Path(work, f"dropped.{language}")
+        source.write_text('#include "pageledger.h"\nint main(void) { static uint32_t l[1]; static uint8_t r[1]; '
+                          + call % "pageledger_create(r, 1, l, 1, 1)" + " }\n")
+        problem = run([compiler, "-x", language, f"-std={standard}", *STRICT, "-Iout/include", "-c", source, "-o", "/dev/null"])
+        if drops != bool(re.search(r"warn.unused.result|nodiscard|-Wunused-result", problem or "")) or not drops and problem:
+            return problem or "nothing was said"
+    return None
+
+
 def linked_alone(folder, triple, helpers, work):
     """Links a program for Arm that has the address of each function, with the kit's linker and no other library. Of a C library the
     program has these helpers alone."""
     if problem := run(["rt", "doc"]):
         return problem
     tools = pathlib.Path(run.printed.strip()).parent.parent / "on" / platform.machine() / "toolchain/bin"
-    names = sorted(set(re.findall(r"^\w+ (pageledger_\w+)\(", (HERE / "out/include/pageledger.h").read_text(), re.M)))
+    names = sorted(header.functions())
     source, program = pathlib.Path(work, "alone.c"), f"{work}/alone-{folder}"
     source.write_text("".join(f"extern char {n}[];\n" for n in names) + "char *_start[] = {" + ", ".join(names) + "};\n"
                       + "".join(f"char {n}[1];\n" for n in helpers))
@@ -55,40 +111,48 @@ def linked_alone(folder, triple, helpers, work):
             or run([tools / "ld.lld", f"{program}.o", library, "-o", program]))
 
 
-def digests(work):
-    """Yields each library that can be run here, with what is wrong with what tests/digest.c prints over it, or None."""
-    here, expected = f"{platform.machine()}-linux", (HERE / "tests/digest.numbers").read_text()
-    builds = {here: (["cc"], [])}
-    if shutil.which("aarch64-linux-gnu-gcc") and shutil.which("qemu-aarch64"):
-        builds |= {folder: (["aarch64-linux-gnu-gcc", "-static"], ["qemu-aarch64"]) for folder in ("aarch64-linux", "aarch64-none-elf")}
-    else:
-        print("no aarch64-linux-gnu-gcc and qemu-aarch64 here: of the libraries only that of this machine was run")
-    for folder, (compiler, runner) in builds.items():
-        command = [*compiler, "-std=c99", "-O2", *STRICT, "-Iout/include", "tests/digest.c", f"out/{folder}/libpageledger.a", "-o", f"{work}/digest"]
-        yield folder, run(command) or run([*runner, f"{work}/digest"], expected)
+def digest(folder, work, compiler=("cc",), runner=()):
+    """What is wrong with what tests/digest.c prints over a library, or None."""
+    expected = (HERE / "tests/digest.numbers").read_text()
+    sources = ["-Iout/include", "tests/digest.c", f"out/{folder}/libpageledger.a"]
+    return run([*compiler, "-std=c99", "-O2", *STRICT, *sources, "-o", f"{work}/digest"]) or run([*runner, f"{work}/digest"], expected)
 
 
-def main():
-    count = tally.Tally()
-    library = HERE / "out" / f"{platform.machine()}-linux" / "libpageledger.a"
-    for compiler, language, standard in (("cc", "c", "c99"), ("cc", "c", "c11"), ("c++", "c++", "c++11"), ("c++", "c++", "c++17")):
-        command = [compiler, "-x", language, f"-std={standard}", *STRICT, "-fsyntax-only", "out/include/pageledger.h"]
+def check_alone(count, work):
+    count.check("a program for aarch64-linux", linked_alone("aarch64-linux", "aarch64-unknown-linux-gnu", ["memset"], work))
+    count.check("a program for aarch64-none-elf", linked_alone("aarch64-none-elf", "aarch64-none-elf", [], work))
+
+
+def check_c(count, work):
+    count.check("the header's numbers beside those of crate c_answers", numbers_differ())
+    count.check("the versions of header and Rust crate", versions_differ())
+    for compiler, language, standard in STANDARDS:
+        command = [compiler, "-x", language, f"-std={standard}", *STRICT, "-fsyntax-only", "-include", "out/include/pageledger.h",
+                   "/dev/null"]
         count.check(f"the header as {standard}", run(command))
-    with tempfile.TemporaryDirectory() as work:
-        for compiler, language, standard in (("cc", "c", "c99"), ("c++", "c++", "c++11")):
-            for name, expected in EXAMPLES.items():
-                program = f"{work}/{name}-{standard}"
-                command = [compiler, "-x", language, f"-std={standard}", *STRICT, "-Iout/include", f"examples/{name}.c",
-                           "-x", "none", library, "-o", program]
-                count.check(f"examples/{name}.c as {standard}", run(command) or run([program], expected))
-        for folder, triple, helpers in (("aarch64-linux", "aarch64-unknown-linux-gnu", ["memset"]), ("aarch64-none-elf", "aarch64-none-elf", [])):
-            count.check(f"a program for {folder}", linked_alone(folder, triple, helpers, work))
-        for folder, problem in digests(work):
-            count.check(f"the same answers from out/{folder}", problem)
-        command = ["cc", "-std=c11", "-O2", "-fno-builtin", *STRICT, "tests/memory.c", "-o", f"{work}/memory"]
-        count.check("support/memory.c beside the C library's", run(command) or run([f"{work}/memory"], "23960 of 23960 agree\n"))
+        count.check(f"a dropped answer is warned of in {standard}", dropped_answer(compiler, language, standard, work))
+    count.check("the names of refusals", refusal_names(work))
+    for compiler, language, standard in (("cc", "c", "c99"), ("c++", "c++", "c++11")):
+        for name, expected in IN_C.items():
+            program = f"{work}/{name}-{standard}"
+            command = [compiler, "-x", language, f"-std={standard}", *STRICT, "-Iout/include", f"examples/{name}.c",
+                       "-x", "none", HERE / "out" / HOST / "libpageledger.a", "-o", program]
+            count.check(f"examples/{name}.c as {standard}", run(command) or run([program], expected))
+    count.check(f"the answers of out/{HOST}", digest(HOST, work))
+    command = ["cc", "-std=c11", "-O2", "-fno-builtin", *STRICT, "tests/memory.c", "-o", f"{work}/memory"]
+    count.check("support/memory.c beside the C library's", run(command) or run([f"{work}/memory"], "23960 of 23960 agree\n"))
+
+
+def check_arm(count, work):
+    native = platform.machine() == "aarch64"
+    compiler, runner = (["cc", "-static"], []) if native else (["aarch64-linux-gnu-gcc", "-static"], ["qemu-aarch64"])
+    for folder in ("aarch64-linux", "aarch64-none-elf"):
+        count.check(f"the answers of out/{folder}", digest(folder, work, compiler, runner))
+
+
+def check_rust(count, _):
     cargo = {"CARGO_TARGET_DIR": str(HERE / "target/host"), "CARGO_NET_OFFLINE": "true"}
-    for name, expected in EXAMPLES.items():
+    for name, expected in IN_RUST.items():
         command = ["cargo", "run", "--quiet", "--manifest-path", "examples/rust/Cargo.toml", "--bin", name]
         count.check(f"examples/rust, {name}", run(command, expected, **cargo))
     command = ["cargo", "test", "--manifest-path", "host/Cargo.toml", "--", "--nocapture", "--test-threads=1"]
@@ -98,7 +162,19 @@ def main():
             print(line)
     ran = set(re.findall(r"^test ([\w:]+) \.\.\.", run.printed, re.M))
     count.check("host/ builds, and its tests run", problem or (None if HOST_TESTS <= ran else f"ran {sorted(ran)}"))
+
+
+PARTS = {"alone": check_alone, "c": check_c, "arm": check_arm, "rust": check_rust}
+
+
+def main(parts):
+    if not set(parts) <= set(PARTS):
+        sys.exit(__doc__)
+    count = tally.Tally()
+    with tempfile.TemporaryDirectory() as work:
+        for part in parts or PARTS:
+            PARTS[part](count, work)
     count.finish()
 
 
-main()
+main(sys.argv[1:])

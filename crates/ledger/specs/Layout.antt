@@ -14,18 +14,18 @@ use Rattle.memory.specs.Word.{word-at}
 use Rattle.model.specs.State.{State, Frame-kind, monitor, free, table, draining-table, page, draining-page, is-guest}
 use Rattle.ledger.specs.Cells.{cell}
 
-abbrev pub most-frames : ℕ
-most-frames = 2097152
+abbrev pub room-for-frames : ℕ
+room-for-frames = 2097152
 
 abbrev pub words-for : ℕ → ℕ
 words-for n = 144 + 16 * n
 
 -- the row of frame f is there
 abbrev pub Row : List ℕ → ℕ → Type 0
-Row l f = (f < most-frames) × (144 + 16 * f + 16 ≤ length l)
+Row l f = (f < room-for-frames) × (144 + 16 * f + 16 ≤ length l)
 
 abbrev pub frames : List ℕ → (column f : ℕ) → ℕ
-frames l = cell 144 most-frames l
+frames l = cell 144 room-for-frames l
 
 abbrev pub guest-rows : List ℕ → (column g : ℕ) → ℕ
 guest-rows l = cell 0 9 l

@@ -5,14 +5,14 @@ use mathlib.Core.List.{List}
 use Prim.Native.Nat.{ℕ, suc, _≤_}
 use lib.ListN.{length}
 use Rattle.model.specs.State.{State, Frame-kind}
-use Rattle.ledger.specs.Layout.{frames, guest-rows, words-for, most-frames, size-in, pick-of, state-of}
+use Rattle.ledger.specs.Layout.{frames, guest-rows, words-for, room-for-frames, size-in, pick-of, state-of}
 use Rattle.ledger.specs.Fields.{with-kind}
 use Rattle.ledger.specs.FreeSet.{Free-set}
 
 -- of the length of a ledger, its frames' rows and its guests' rows
 pub record Rows-sound (len : ℕ) (F G : ℕ → ℕ → ℕ) : Type 0 where
   pub length-fits : len ≡ words-for (size-in G)
-  pub few : size-in G ≤ most-frames
+  pub few : size-in G ≤ room-for-frames
   pub free-set : Free-set (size-in G) (F 0) (F 12) (F 13) (G 3 0)
 
 abbrev pub Ledger-sound : List ℕ → Type 0

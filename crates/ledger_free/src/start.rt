@@ -3,7 +3,7 @@ ghost use mathlib.Core.Path.{_≡_};
 ghost use Prim.Native.Nat.{_+_, _-_, _<_, _≤_};
 ghost use lib.ListN.{length};
 ghost use Rattle.memory.specs.Word.{cleared-at};
-ghost use Rattle.ledger.specs.Layout.{words-for, most-frames};
+ghost use Rattle.ledger.specs.Layout.{words-for, room-for-frames};
 ghost use Rattle.ledger_free.specs.Start.{kind-first, Filled, ram-stored, Laid-out};
 use super::place;
 use ledger::cells;
@@ -29,7 +29,7 @@ fn first_kind(f: u64, k: u64) -> u64
 
 fn fill_row(ledger: &mut [u32], n: u64, k: u64, f: u64)
     requires { ⌜ Filled n k f (now ledger) ⌝ }
-    requires { ⌜ (f < n) × (n ≤ most-frames) ⌝ }
+    requires { ⌜ (f < n) × (n ≤ room-for-frames) ⌝ }
     ensures { λ _. ⌜ Filled n k (f + 1) (now (ledger .exit)) ⌝ }
 {
     let v = first_kind(f, k);
@@ -38,7 +38,7 @@ fn fill_row(ledger: &mut [u32], n: u64, k: u64, f: u64)
 }
 
 fn fill(ledger: &mut [u32], n: u64, k: u64)
-    requires { ⌜ (length (now ledger) ≡ words-for n) × (n ≤ most-frames) ⌝ }
+    requires { ⌜ (length (now ledger) ≡ words-for n) × (n ≤ room-for-frames) ⌝ }
     ensures { λ _. ⌜ Filled n k n (now (ledger .exit)) ⌝ }
 {
     clear(ledger);
@@ -51,7 +51,7 @@ fn fill(ledger: &mut [u32], n: u64, k: u64)
 
 // n, and b / 4096 in two parts.
 fn store_ram(ledger: &mut [u32], n: u64, first: u64)
-    requires { ⌜ (144 ≤ length (now ledger)) × (n ≤ most-frames) ⌝ }
+    requires { ⌜ (144 ≤ length (now ledger)) × (n ≤ room-for-frames) ⌝ }
     ensures { λ _. ⌜ now (ledger .exit) ≡ ram-stored (now (ledger .entry)) n first ⌝ }
 {
     cells::store_of_guest(ledger, 4, 0, n);
@@ -60,7 +60,7 @@ fn store_ram(ledger: &mut [u32], n: u64, first: u64)
 }
 
 pub fn lay_out(ledger: &mut [u32], n: u64, b: u64, k: u64)
-    requires { ⌜ (length (now ledger) ≡ words-for n) × (n ≤ most-frames) × (k < n) ⌝ }
+    requires { ⌜ (length (now ledger) ≡ words-for n) × (n ≤ room-for-frames) × (k < n) ⌝ }
     ensures { λ _. ⌜ Laid-out n b k (now (ledger .exit)) ⌝ }
 {
     fill(ledger, n, k);

@@ -1,8 +1,39 @@
 // Memory as a slice of bytes: the 64-bit word at a place, read and stored, lowest byte first; a part cleared.
+// And which frames from which address on RAM can have.
 ghost use mathlib.Core.Path.{_≡_};
 ghost use Prim.Native.Nat.{_+_, _<_, _≤_, _%_};
 ghost use lib.ListN.{length};
 ghost use Rattle.memory.specs.Word.{word-at, stored-at, cleared-at};
+ghost use Rattle.memory.specs.Ram.{ram-fits};
+
+// Document 01, section 1.
+pub const FRAME_BYTES: u64 = 4096;
+
+pub const FEWEST_FRAMES: u64 = 16;
+
+pub const MOST_FRAMES: u64 = 65536;
+
+pub const ADDRESS_END: u64 = 0x1000000000000;
+
+// Whether RAM of `frames` frames from physical address `base` on is one that document 01, section 1 describes.
+pub fn ram_fits(base: u64, frames: u64) -> bool
+    ensures { λ r. ⌜ r ≡ ram-fits base frames ⌝ }
+{
+    if frames < FEWEST_FRAMES {
+        return false;
+    }
+    if MOST_FRAMES < frames {
+        return false;
+    }
+    if base % FRAME_BYTES != 0 {
+        return false;
+    }
+    // base + FRAME_BYTES * frames, which need not fit 64 bits, is above ADDRESS_END
+    if ADDRESS_END - FRAME_BYTES * frames < base {
+        return false;
+    }
+    true
+}
 
 fn wide(x: u8) -> u64
     ensures { λ r. ⌜ (r ≡ x) × (r < 256) ⌝ }

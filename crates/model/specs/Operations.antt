@@ -4,6 +4,7 @@
 use mathlib.Core.Bool.{Bool, true, false, not, _&&_, _||_, cond}
 use Prim.Native.Nat.{ℕ, _+_, _*_, _/_, _%_}
 use lib.Dec.{eqb, ltb, leb}
+use Rattle.memory.specs.Ram.{frame-bytes, address-end, ram-fits}
 use Rattle.model.specs.Base.{upd, upd2, all}
 use Rattle.model.specs.State.{State, Frame-kind, monitor, free, page, draining-page, is-guest, is-free, is-page, is-page-of, total, free-frames}
 use Rattle.model.specs.Translate.{mapped, missing}
@@ -24,7 +25,7 @@ check false k o = refuse k
 
 -- 7: "guest-physical address not a multiple of 4,096, or 2^48 or more"
 abbrev pub page-address : ℕ → Bool
-page-address a = eqb (a % 4096) 0 && ltb a 0x1000000000000
+page-address a = eqb (a % frame-bytes) 0 && ltb a address-end
 
 -- 8: "rights not 1, 3, 5 or 7 (1 read, 2 write, 4 execute, added up)"
 abbrev pub is-rights : ℕ → Bool
@@ -133,7 +134,7 @@ at-first n k f = cond (ltb f k || leb n f) monitor free
 unfoldable pub started : (n b k : ℕ) (word : ℕ → ℕ → ℕ) → State
 started n b k w = record {
   size = n;
-  first = b / 4096;
+  first = b / frame-bytes;
   kind = at-first n k;
   shared = λ f h. 0;
   count = λ f h. 0;
@@ -146,5 +147,5 @@ started n b k w = record {
 -- "Set-up with n, b, k or a slice that don't fit is refused with 4 and changes nothing." fits: the slices have the lengths that n asks for
 unfoldable pub set-up : (fits : Bool) (n b k : ℕ) (word : ℕ → ℕ → ℕ) → Out
 set-up fits n b k w =
-    check (fits && leb 16 n && leb n 65536 && eqb (b % 4096) 0 && leb (b + 4096 * n) 0x1000000000000 && ltb k n) 4 (
+    check (fits && ram-fits b n && ltb k n) 4 (
     done (started n b k w))

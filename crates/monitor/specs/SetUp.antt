@@ -5,6 +5,7 @@ use mathlib.Core.List.{List}
 use Prim.Native.Nat.{ℕ, _*_}
 use lib.Dec.{eqb}
 use lib.ListN.{length}
+use Rattle.memory.specs.Ram.{frame-bytes}
 use Rattle.model.specs.Operations.{Out, set-up}
 use Rattle.ledger.specs.Layout.{words-for, word-of}
 use Rattle.ledger.specs.Sound.{Sound}
@@ -12,7 +13,7 @@ use Rattle.monitor_contract.specs.Answers.{Outcome}
 
 -- the slices have the lengths that n asks for
 unfoldable pub slices-fit : (n : ℕ) (ram ledger : List ℕ) → Bool
-slices-fit n m l = eqb (length m) (n * 4096) && eqb (length l) (words-for n)
+slices-fit n m l = eqb (length m) (n * frame-bytes) && eqb (length l) (words-for n)
 
 abbrev pub setting-up : (n b k : ℕ) (ram ledger : List ℕ) → Out
 setting-up n b k m l = set-up (slices-fit n m l) n b k (word-of m)

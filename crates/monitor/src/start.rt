@@ -1,34 +1,33 @@
 // Set-up. It counts on nothing, and RAM it only looks at.
 ghost use mathlib.Core.Path.{_≡_};
+ghost use Prim.Native.Nat.{_≤_};
+ghost use Rattle.memory.specs.Ram.{most-frames};
 ghost use Rattle.model.specs.Operations.{refusal};
-ghost use Rattle.monitor.specs.SetUp.{setting-up, SetUp};
+ghost use Rattle.monitor.specs.SetUp.{slices-fit, setting-up, SetUp};
 use ledger_free::start;
+
+// The slices have the lengths that n asks for.
+fn slices_fit(ram: &[u8], ledger: &[u32], n: u64) -> bool
+    requires { ⌜ n ≤ most-frames ⌝ }
+    ensures { λ r. ⌜ r ≡ slices-fit n (now (ram .entry)) (now (ledger .entry)) ⌝ }
+{
+    if ram.len() as u64 == n * memory::FRAME_BYTES {
+        return ledger.len() as u64 == 144 + 16 * n;
+    }
+    false
+}
 
 fn check_set_up(ram: &[u8], ledger: &[u32], n: u64, b: u64, k: u64) -> u64
     ensures { λ r. ⌜ r ≡ refusal (setting-up n b k (now (ram .entry)) (now (ledger .entry))) ⌝ }
 {
-    if n < 16 {
-        return 4;
+    if memory::ram_fits(b, n) {
+        if k < n {
+            if slices_fit(ram, ledger, n) {
+                return 0;
+            }
+        }
     }
-    if 65536 < n {
-        return 4;
-    }
-    if b % 4096 != 0 {
-        return 4;
-    }
-    if 0x1000000000000 - 4096 * n < b {
-        return 4;
-    }
-    if n <= k {
-        return 4;
-    }
-    if ram.len() as u64 != n * 4096 {
-        return 4;
-    }
-    if ledger.len() as u64 != 144 + 16 * n {
-        return 4;
-    }
-    0
+    4
 }
 
 // n frames from physical address b on, of which the first k are the monitor's.

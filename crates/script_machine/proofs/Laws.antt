@@ -8,6 +8,9 @@ use lib.Dec.{leb, ltb, eqb}
 use lib.ListN.{length, take, drop}
 use lib.Seq.{length-take-le, length-front, take-at, drop-at, take-set-lt}
 use borrow.Author.Tests.{leb-true, ltb-true, eqb-true, ne-eqb}
+use Rattle.monitor.proofs.Laws.SetUp.{lengths-fit, fits-all}
+use Rattle.memory.specs.Ram.{ram-fits}
+use Rattle.memory.proofs.Laws.Ram.{Ram-fits, fits as place-fits, fits-so}
 use Rattle.memory.specs.Word.{stored-at, cleared-at}
 use Rattle.memory.proofs.Laws.Words.{length-kept, cleared-length}
 use Rattle.model.specs.State.{Frame-kind, monitor, free, table, draining-table, page, draining-page, tabled}
@@ -47,31 +50,22 @@ place m a e =
 
 -- what `setup` takes
 pub record Allowed (lent words n b k : ℕ) : Type 0 where
-  pub least : 16 ≤ n
-  pub many : n ≤ 65536
+  pub ram : Ram-fits b n
   pub enough : n ≤ lent
   pub room : words-for n ≤ words
-  pub even : b % 4096 ≡ 0
-  pub high : b + 4096 * n ≤ 2 ^ 48
   pub fewer : k < n
 
 pub allowed : (lent words n b k : ℕ) → allowed-of lent words n b k ≡ true → Allowed lent words n b k
 unfolding allowed-of
 allowed lent words n b k e =
-    let p6 = both (leb 16 n && leb n 65536 && leb n lent && leb (words-for n) words && eqb (b % 4096) 0 && leb (b + 4096 * n) (2 ^ 48)) (ltb k n) e in
-    let p5 = both (leb 16 n && leb n 65536 && leb n lent && leb (words-for n) words && eqb (b % 4096) 0) (leb (b + 4096 * n) (2 ^ 48)) (p6 .0) in
-    let p4 = both (leb 16 n && leb n 65536 && leb n lent && leb (words-for n) words) (eqb (b % 4096) 0) (p5 .0) in
-    let p3 = both (leb 16 n && leb n 65536 && leb n lent) (leb (words-for n) words) (p4 .0) in
-    let p2 = both (leb 16 n && leb n 65536) (leb n lent) (p3 .0) in
-    let p1 = both (leb 16 n) (leb n 65536) (p2 .0) in
+    let p3 = both (ram-fits b n && leb n lent && leb (words-for n) words) (ltb k n) e in
+    let p2 = both (ram-fits b n && leb n lent) (leb (words-for n) words) (p3 .0) in
+    let p1 = both (ram-fits b n) (leb n lent) (p2 .0) in
     record {
-      least = leb-true _ _ (p1 .0);
-      many = leb-true _ _ (p1 .1);
-      enough = leb-true _ _ (p2 .1);
-      room = leb-true _ _ (p3 .1);
-      even = eqb-true _ _ (p4 .1);
-      high = leb-true _ _ (p5 .1);
-      fewer = ltb-true _ _ (p6 .1);
+      ram = fits-so b n (p1 .0);
+      enough = leb-true _ _ (p1 .1);
+      room = leb-true _ _ (p2 .1);
+      fewer = ltb-true _ _ (p3 .1);
     }
 
 -- a frame that holds a table, by the number of what it is
@@ -140,15 +134,14 @@ module _ (n b k : ℕ) (m : Machine) (ram l : List ℕ) (e : allowed-of (length 
       made =
           let a = length-take-le (4096 * n) ram′ ram-within in
           let d = length-take-le (words-for n) l (fits .room) in
-          let high = fits .high in
           started-so n b k (take (4096 * n) ram′) (take (words-for n) l) answer l₁
-          (sym (S.fits-all n b k (take (4096 * n) ram′) (take (words-for n) l) (omega arith) d (fits .least) (fits .many) (fits .even) (omega arith) (fits .fewer))) x
+          (sym (fits-all n b k (take (4096 * n) ram′) (take (words-for n) l) (lengths-fit n b k (take (4096 * n) ram′) (take (words-for n) l) (omega arith) d) (place-fits b n (fits .ram)) (fits .fewer))) x
 
       zero : answer ≡ 0
       zero = made .0
 
       based : b ≡ 4096 * first-of l₁
-      based = let e = made .1 in let f = fits .even in omega arith
+      based = let e = made .1 in let f = fits .ram .aligned in omega arith
 
 -- a word that is stored in a part
 stored-part : (n : ℕ) (xs : List ℕ) (at v : ℕ) → at + 8 ≤ n → take n (stored-at xs at v) ≡ stored-at (take n xs) at v

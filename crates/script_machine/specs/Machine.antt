@@ -6,6 +6,7 @@ use mathlib.Core.Bool.{Bool, true, false, not, cond, _&&_, _||_}
 use mathlib.Core.List.{List}
 use lib.Dec.{ltb, leb, eqb}
 use lib.ListN.{length, take, drop}
+use Rattle.memory.specs.Ram.{ram-fits}
 use Rattle.memory.specs.Word.{word-at, stored-at, cleared-at}
 use Rattle.walk.specs.Both.{answer-2, answer}
 use Rattle.model.specs.State.{tabled}
@@ -45,7 +46,7 @@ pub record Kept (m : Machine) (ram ledger : List ℕ) : Type 0 where
 -- document 01, section 1: n frames from b; of the first k, the monitor's, there are fewer; and as many frames are lent, and the words of their ledger
 unfoldable pub allowed-of : (lent words n b k : ℕ) → Bool
 allowed-of lent words n b k =
-    leb 16 n && leb n 65536 && leb n lent && leb (words-for n) words && eqb (b % 4096) 0 && leb (b + 4096 * n) (2 ^ 48) && ltb k n
+    ram-fits b n && leb n lent && leb (words-for n) words && ltb k n
 
 -- the eight bytes at physical address a are all in RAM
 unfoldable pub word-in-ram : Machine → ℕ → Bool

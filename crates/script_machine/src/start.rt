@@ -10,28 +10,16 @@ use super::Reply;
 fn allowed(lent: u64, words: u64, frames: u64, base: u64, monitor: u64) -> bool
     ensures { λ r. ⌜ r ≡ allowed-of lent words frames base monitor ⌝ }
 {
-    if frames < 16 {
-        return false;
+    if memory::ram_fits(base, frames) {
+        if lent < frames {
+            return false;
+        }
+        if words < 144 + 16 * frames {
+            return false;
+        }
+        return monitor < frames;
     }
-    if 65536 < frames {
-        return false;
-    }
-    if lent < frames {
-        return false;
-    }
-    if words < 144 + 16 * frames {
-        return false;
-    }
-    if base % 4096 != 0 {
-        return false;
-    }
-    if 0x1000000000000 < base {
-        return false;
-    }
-    if 0x1000000000000 < base + 4096 * frames {
-        return false;
-    }
-    monitor < frames
+    false
 }
 
 pub fn set_up(

@@ -56,19 +56,10 @@ enum Turn {
 fn fits_image(len: usize, base: u64, frames: u64) -> bool
     ensures { λ r. ⌜ r ≡ image-fits len base frames ⌝ }
 {
-    if frames < 16 {
-        return false;
+    if memory::ram_fits(base, frames) {
+        return len as u64 == memory::FRAME_BYTES * frames;
     }
-    if 65536 < frames {
-        return false;
-    }
-    if base % 4096 != 0 {
-        return false;
-    }
-    if 0x1000000000000 - 4096 * frames < base {
-        return false;
-    }
-    len as u64 == 4096 * frames
+    false
 }
 
 fn fits_root(root: u64) -> bool

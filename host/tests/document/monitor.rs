@@ -72,15 +72,15 @@ fn index(a: u64, level: usize) -> u64 {
 
 impl Monitor {
     /// Section 1, and document 01, section 1: the frames, where the numbers and the slices fit.
-    pub fn fits(ram_length: usize, ledger_fits: bool, n: u64, b: u64, k: u64) -> Result<Vec<Kind>, u64> {
+    pub fn fits(ram_length: usize, ledger_fits: bool, b: u64, n: u64, k: u64) -> Result<Vec<Kind>, u64> {
         check((16..=65_536).contains(&n) && k < n, 4)?;
         check(b % 4096 == 0 && b <= (1 << 48) - 4096 * n, 4)?;
         check(ram_length as u64 == 4096 * n && ledger_fits, 4)?;
         Ok((0..n).map(|f| if f < k { Kind::Monitor } else { Kind::Free }).collect())
     }
 
-    pub fn set_up(ram: &[u8], n: u64, b: u64, k: u64) -> Result<Monitor, u64> {
-        let frames = Monitor::fits(ram.len(), true, n, b, k)?;
+    pub fn set_up(ram: &[u8], b: u64, n: u64, k: u64) -> Result<Monitor, u64> {
+        let frames = Monitor::fits(ram.len(), true, b, n, k)?;
         Ok(Monitor { ram: ram.to_vec(), base: b, frames, guests: Default::default(), bad_choice: None, wrong: None })
     }
 

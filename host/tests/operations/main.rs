@@ -13,6 +13,7 @@ mod common;
 mod document;
 #[path = "../document/monitor.rs"]
 mod document_03;
+mod faces;
 mod run;
 mod steps;
 mod subject;
@@ -23,11 +24,11 @@ use run::{Run, Seen};
 use steps::REFUSALS;
 use subject::Subject;
 
-/// What set-up is asked for.
+/// What set-up is asked for: RAM from b on, of n frames, of which the first k are the monitor's.
 #[derive(Clone, Copy, Debug)]
 struct Shape {
-    n: u64,
     b: u64,
+    n: u64,
     k: u64,
 }
 
@@ -46,7 +47,7 @@ impl Shape {
             1 => random.below(n),
             _ => random.below(8),
         };
-        Shape { n, b: random.pick(&[0, 0x40000000, highest, anywhere]), k }
+        Shape { b: random.pick(&[0, 0x40000000, highest, anywhere]), n, k }
     }
 
     fn ram(&self, random: &mut Random) -> Vec<u8> {
@@ -58,7 +59,11 @@ impl Shape {
     }
 
     fn document(&self, ram: &[u8]) -> Monitor {
-        Monitor::set_up(ram, self.n, self.b, self.k).expect("numbers that fit")
+        Monitor::set_up(ram, self.b, self.n, self.k).expect("numbers that fit")
+    }
+
+    fn library<'a>(&self, ram: &'a mut [u8], ledger: &'a mut [u32]) -> pageledger::Monitor<'a> {
+        pageledger::Monitor::simulated(ram, ledger, self.b, self.n, self.k).expect("numbers that fit")
     }
 }
 
@@ -111,7 +116,7 @@ fn operations() {
         let shape = Shape::new(random);
         let (mut ram, mut ledger) = (shape.ram(random), shape.ledger(random));
         let document = shape.document(&ram);
-        let mut subject = pageledger::Monitor::set_up(&mut ram, &mut ledger, shape.n, shape.b, shape.k).expect("numbers that fit");
+        let mut subject = shape.library(&mut ram, &mut ledger);
         match steps(&mut subject, document, random, &mut seen) {
             Ok(operations) => done += operations,
             Err(problem) => panic!("seed {seed}, run {runs} with {shape:x?}: {problem}"),

@@ -37,7 +37,7 @@ pub trait Subject {
 }
 
 fn number(answer: Result<(), Refusal>) -> u64 {
-    answer.map_or_else(|refusal| refusal as u64, |()| 0)
+    answer.map_or_else(|refusal| refusal.number(), |()| 0)
 }
 
 impl Subject for pageledger::Monitor<'_> {
@@ -45,9 +45,9 @@ impl Subject for pageledger::Monitor<'_> {
         number(match operation {
             Operation::Create { g } => self.create(g),
             Operation::Give { f, g } => self.give(f, g),
-            Operation::Map { f, g, a, r } => self.map(f, g, a, r),
+            Operation::Map { f, g, a, r } => self.map_raw(f, g, a, r),
             Operation::Unmap { a, g } => self.unmap(a, g),
-            Operation::Share { g, f, h, w } => self.share(g, f, h, w),
+            Operation::Share { g, f, h, w } => self.share_raw(g, f, h, w),
             Operation::Unshare { g, f, h } => self.unshare(g, f, h),
             Operation::Take { f, g } => self.take(f, g),
             Operation::Destroy { g } => self.destroy(g),
@@ -56,7 +56,8 @@ impl Subject for pageledger::Monitor<'_> {
     }
 
     fn ram(&self) -> &[u8] {
-        self.ram().bytes
+        // SAFETY: RAM is a test's own, and nothing writes it while it is looked at.
+        unsafe { self.image() }.bytes
     }
 
     fn ledger(&self) -> &[u32] {
@@ -94,9 +95,12 @@ impl Subject for pageledger::Monitor<'_> {
     }
 
     fn store_kept(&mut self, f: u64, offset: usize, bytes: &[u8]) {
-        // SAFETY: the caller's document says that it is a page, or was one.
-        let ram = unsafe { self.ram_mut() };
-        ram[4096 * f as usize + offset..][..bytes.len()].copy_from_slice(bytes);
+        assert!(offset + bytes.len() <= pageledger::FRAME_BYTES);
+        // SAFETY: the caller's document says that it is a page, or was one; and so it lies in RAM.
+        unsafe {
+            let to = self.ram_ptr().add(pageledger::FRAME_BYTES * f as usize + offset);
+            to.copy_from_nonoverlapping(bytes.as_ptr(), bytes.len());
+        }
     }
 }
 

@@ -8,94 +8,63 @@ use Rattle.c_answers.proofs.tell_guest.Tie as tie
 enum-told : tie.Need-enum-told
 enum-told c = search needs
 
-tell-three-requires : tie.Need-tell-three-requires
-tell-three-requires c κs = search needs
+tell-state-requires : tie.Need-tell-state-requires
+tell-state-requires c κs = search needs
 
 enum-known-guest : tie.Need-enum-known-guest
 enum-known-guest c = search needs
 
-bit-requires : tie.Need-bit-requires
-bit-requires c κs = search needs
+number-of-flag-requires : tie.Need-number-of-flag-requires
+number-of-flag-requires c κs = search needs
 
-tell-three-requires-2 : tie.Need-tell-three-requires-2
-tell-three-requires-2 c κs = search needs
+tell-state-requires-2 : tie.Need-tell-state-requires-2
+tell-state-requires-2 c κs = search needs
 
 enum-known-guest-2 : tie.Need-enum-known-guest-2
 enum-known-guest-2 c = search needs
 
-bit-requires-2 : tie.Need-bit-requires-2
-bit-requires-2 c κs = search needs
+number-of-flag-requires-2 : tie.Need-number-of-flag-requires-2
+number-of-flag-requires-2 c κs = search needs
 
-tell-three-requires-3 : tie.Need-tell-three-requires-3
-tell-three-requires-3 c κs = search needs
+tell-state-requires-3 : tie.Need-tell-state-requires-3
+tell-state-requires-3 c κs = search needs
 
 same-length : tie.Need-same-length
 same-length c = search needs
 
 returns : tie.Need-returns
-returns c = (
-  simp (
-    c .before .before .before .before .enum-told .given .1,
-    sym (c .before .before .tell-three .ensures .0),
-    sym (c .before .before .tell-three .ensures .1),
-  ),
-  simp (
-    c .before .before .before .before .enum-told .given .1,
-    sym (c .before .before .tell-three .ensures .0),
-    sym (c .before .before .tell-three .ensures .1),
-  ),
-)
+returns c = simp (c .before .before .before .before .enum-told .given .1) (c .before .before .tell-state .ensures)
 
 same-length-2 : tie.Need-same-length-2
 same-length-2 c = search needs
 
 returns-2 : tie.Need-returns-2
-returns-2 c = (
-  simp (
-    c .before .before .before .before .before .before .guest .given .1,
-    sym (c .before .before .before .bit .ensures),
-    sym (c .before .before .tell-three2 .ensures .0),
-    sym (c .before .before .tell-three2 .ensures .1),
-  ),
-  simp (
-    c .before .before .before .before .before .before .guest .given .1,
-    sym (c .before .before .before .bit .ensures),
-    sym (c .before .before .tell-three2 .ensures .0),
-    sym (c .before .before .tell-three2 .ensures .1),
-  ),
-)
+returns-2 c = simp (
+  c .before .before .before .before .before .before .guest .given .1,
+  sym (c .before .before .before .number-of-flag .ensures),
+) (c .before .before .tell-state2 .ensures)
 
 same-length-3 : tie.Need-same-length-3
 same-length-3 c = search needs
 
 returns-3 : tie.Need-returns-3
-returns-3 c = (
-  simp (
-    c .before .before .before .before .before .before .guest2 .given .1,
-    sym (c .before .before .before .bit2 .ensures),
-    sym (c .before .before .tell-three3 .ensures .0),
-    sym (c .before .before .tell-three3 .ensures .1),
-  ),
-  simp (
-    c .before .before .before .before .before .before .guest2 .given .1,
-    sym (c .before .before .before .bit2 .ensures),
-    sym (c .before .before .tell-three3 .ensures .0),
-    sym (c .before .before .tell-three3 .ensures .1),
-  ),
-)
+returns-3 c = simp (
+  c .before .before .before .before .before .before .guest2 .given .1,
+  sym (c .before .before .before .number-of-flag2 .ensures),
+) (c .before .before .tell-state3 .ensures)
 
 pub tell-guest-spec : {M : Type 1} → statement M
 tell-guest-spec =
     tie.close
     (tie.spec
     enum-told
-    tell-three-requires
+    tell-state-requires
     enum-known-guest
-    bit-requires
-    tell-three-requires-2
+    number-of-flag-requires
+    tell-state-requires-2
     enum-known-guest-2
-    bit-requires-2
-    tell-three-requires-3
+    number-of-flag-requires-2
+    tell-state-requires-3
     same-length
     returns
     same-length-2

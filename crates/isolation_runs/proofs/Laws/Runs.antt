@@ -6,6 +6,7 @@ use mathlib.Core.List.{List}
 use Prim.Native.Nat.{ℕ, _+_, _*_, _%_}
 use native.Mathlib.Omega.{arith}
 use lib.Dec.{eqb, ltb, leb}
+use Rattle.memory.specs.Ram.{ram-fits}
 use Rattle.model.specs.Operations.{done, check, set-up, started}
 use Rattle.model.specs.Machine as M
 use Rattle.model.proofs.Invariant.Holds.{nothing-ok}
@@ -27,7 +28,7 @@ run-fits h (then s r) = run-fits (step-fits h s) r
 -- set-up refuses with 4, and never with 0
 accepted : (t : Bool) (n b k : ℕ) (m l l′ : List ℕ) → Outcome (set-up t n b k (word-of m)) m l 0 m l′ → set-up true n b k (word-of m) ≡ done (state-of m l′)
 unfolding set-up check
-accepted true n b k m l l′ o = go (true && leb 16 n && leb n 65536 && eqb (b % 4096) 0 && leb (b + 4096 * n) 0x1000000000000 && ltb k n) o
+accepted true n b k m l l′ o = go (true && ram-fits b n && ltb k n) o
   where
     go : (u : Bool) → Outcome (check u 4 (done (started n b k (word-of m)))) m l 0 m l′ → check u 4 (done (started n b k (word-of m))) ≡ done (state-of m l′)
     go true o = ap done (sym (o .1))

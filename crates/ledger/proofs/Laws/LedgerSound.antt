@@ -9,17 +9,17 @@ use Rattle.model.specs.Base.{upd2}
 use Rattle.model.specs.State.{State}
 use Rattle.ledger.specs.Cells.{store}
 use Rattle.ledger.proofs.Laws.Cells.{length-store, cell-store, cell-apart}
-use Rattle.ledger.specs.Layout.{frames, guest-rows, most-frames, word-of, state-in, state-of}
+use Rattle.ledger.specs.Layout.{frames, guest-rows, room-for-frames, word-of, state-in, state-of}
 use Rattle.ledger.specs.LedgerSound.{Rows-sound, Holds, Changed}
 
 pub holds-itself : (l : List ℕ) → Holds (length l) l (frames l) (guest-rows l)
 holds-itself l = record { length-is = refl; frames-are = refl; guests-are = refl }
 
-pub holds-frame : {len : ℕ} {l : List ℕ} {F G : ℕ → ℕ → ℕ} → Holds len l F G → (j f v : ℕ) → j < 16 → f < most-frames → 144 + 16 * f + j < len →
+pub holds-frame : {len : ℕ} {l : List ℕ} {F G : ℕ → ℕ → ℕ} → Holds len l F G → (j f v : ℕ) → j < 16 → f < room-for-frames → 144 + 16 * f + j < len →
     Holds len (store 144 l j f v) (upd2 F j f v) G
 holds-frame {len} {l} {F} {G} h j f v hj hf low = let k = h .length-is in record {
   length-is = length-store 144 l j f v ∙ h .length-is;
-  frames-are = cell-store 144 most-frames l j f v hj hf (omega arith) ∙ ap (λ (X : ℕ → ℕ → ℕ). upd2 X j f v) (h .frames-are);
+  frames-are = cell-store 144 room-for-frames l j f v hj hf (omega arith) ∙ ap (λ (X : ℕ → ℕ → ℕ). upd2 X j f v) (h .frames-are);
   guests-are = cell-apart 0 9 144 l j f v hj (inl (omega arith)) ∙ h .guests-are;
 }
 
@@ -27,7 +27,7 @@ pub holds-guest : {len : ℕ} {l : List ℕ} {F G : ℕ → ℕ → ℕ} → Hol
     Holds len (store 0 l j g v) F (upd2 G j g v)
 holds-guest {len} {l} {F} {G} h j g v hj hg low = let k = h .length-is in record {
   length-is = length-store 0 l j g v ∙ h .length-is;
-  frames-are = cell-apart 144 most-frames 0 l j g v hj (inr (omega arith)) ∙ h .frames-are;
+  frames-are = cell-apart 144 room-for-frames 0 l j g v hj (inr (omega arith)) ∙ h .frames-are;
   guests-are = cell-store 0 9 l j g v hj hg (omega arith) ∙ ap (λ (X : ℕ → ℕ → ℕ). upd2 X j g v) (h .guests-are);
 }
 

@@ -12,7 +12,7 @@ use Rattle.model.specs.Base.{upd, upd2}
 use Rattle.model.specs.State.{Frame-kind, free, table, page, is-free}
 use Rattle.model.specs.Changes.{drained, released}
 use Rattle.ledger.specs.Cells.{store}
-use Rattle.ledger.specs.Layout.{Row, frames, guest-rows, most-frames, kind-at, size-in, pick-in, pick-of, size-of, kind-of, state-in, state-of}
+use Rattle.ledger.specs.Layout.{Row, frames, guest-rows, room-for-frames, kind-at, size-in, pick-in, pick-of, size-of, kind-of, state-in, state-of}
 use Rattle.ledger.proofs.Laws.Kinds.{kind-here, free-here, stays, remains}
 use Rattle.ledger.specs.Kinds.{kind-for}
 use Rattle.ledger.specs.FreeSet.{Free-set}
@@ -27,7 +27,7 @@ use Rattle.ledger_free.specs.Moves.{placed, exchanged, settled}
 abbrev placed-in : (F : ℕ → ℕ → ℕ) (f q : ℕ) → ℕ → ℕ → ℕ
 placed-in F f q = upd2 (upd2 F 12 q f) 13 f q
 
-holds-placed : {len : ℕ} {l : List ℕ} {F G : ℕ → ℕ → ℕ} → Holds len l F G → (f q : ℕ) → f < most-frames → 144 + 16 * f + 16 ≤ len → q < most-frames → 144 + 16 * q + 16 ≤ len →
+holds-placed : {len : ℕ} {l : List ℕ} {F G : ℕ → ℕ → ℕ} → Holds len l F G → (f q : ℕ) → f < room-for-frames → 144 + 16 * f + 16 ≤ len → q < room-for-frames → 144 + 16 * q + 16 ≤ len →
     Holds len (placed l f q) (placed-in F f q) G
 unfolding placed
 holds-placed x f q a b c d = holds-frame (holds-frame x 12 q f (omega arith) c (omega arith)) 13 f q (omega arith) a (omega arith)

@@ -17,7 +17,7 @@ use Rattle.model.specs.State.{monitor, free, is-guest}
 use Rattle.model.specs.Operations.{at-first, started}
 use Rattle.ledger.specs.Cells.{cell, store}
 use Rattle.ledger.proofs.Laws.Cells.{column-other}
-use Rattle.ledger.specs.Layout.{frames, words-for, most-frames, kind-at, size-in, first-in, kind-in, per-guest, share-part, count-part, exists-in, dirty-in, root-in, pick-in, word-of, state-in}
+use Rattle.ledger.specs.Layout.{frames, words-for, room-for-frames, kind-at, size-in, first-in, kind-in, per-guest, share-part, count-part, exists-in, dirty-in, root-in, pick-in, word-of, state-in}
 use Rattle.ledger.specs.FreeSet.{Free-set}
 use Rattle.ledger.specs.LedgerSound.{Rows-sound, Holds}
 use Rattle.ledger.proofs.Laws.LedgerSound.{holds-frame, holds-guest}
@@ -46,12 +46,12 @@ filled-none n k l l′ len e = rw e (record {
   kinds = λ r h. absurd (omega arith);
   dense = λ r a h. absurd (omega arith);
   places = λ r h. absurd (omega arith);
-  others = λ j r a b c. zero-cell 144 most-frames l j r;
+  others = λ j r a b c. zero-cell 144 room-for-frames l j r;
   guests-none = fun-ext (λ j. fun-ext (λ r. zero-cell 0 9 l j r));
 })
 
-module _ {n k i : ℕ} {l : List ℕ} (h : Filled n k i l) (hi : i < n) (few : n ≤ most-frames) where
-  pub row-fits : (i < most-frames) × (144 + 16 * i + 16 ≤ length l)
+module _ {n k i : ℕ} {l : List ℕ} (h : Filled n k i l) (hi : i < n) (few : n ≤ room-for-frames) where
+  pub row-fits : (i < room-for-frames) × (144 + 16 * i + 16 ≤ length l)
   row-fits = let a = h .length-is in (omega arith, omega arith)
 
   abbrev rows : ℕ → ℕ → ℕ → ℕ
@@ -61,8 +61,8 @@ module _ {n k i : ℕ} {l : List ℕ} (h : Filled n k i l) (hi : i < n) (few : n
   unfolding placed
   three v =
       let d : Holds (words-for n) l (frames l) none = record { length-is = h .length-is; frames-are = refl; guests-are = h .guests-none } in
-      let low : i < most-frames = row-fits .0 in
-      let high : n - 1 - i < most-frames = omega arith in
+      let low : i < room-for-frames = row-fits .0 in
+      let high : n - 1 - i < room-for-frames = omega arith in
       holds-frame (holds-frame (holds-frame d 0 i v (omega arith) low (omega arith)) 12 (n - 1 - i) i (omega arith) high (omega arith)) 13 i (n - 1 - i) (omega arith) low (omega arith)
 
   before : (r : ℕ) → r < i + 1 → (r ≡ i) ⊎ (r < i)
@@ -90,7 +90,7 @@ module _ {n k i : ℕ} {l : List ℕ} (h : Filled n k i l) (hi : i < n) (few : n
       other F r b (inr a) f = upd-other F (n - 1 - i) i r (λ (z : r ≡ n - 1 - i). omega arith) ∙ f a
 
 -- the whole ledger
-module _ (b : ℕ) {n k : ℕ} {l : List ℕ} (h : Filled n k n l) (hk : k < n) (few : n ≤ most-frames) where
+module _ (b : ℕ) {n k : ℕ} {l : List ℕ} (h : Filled n k n l) (hk : k < n) (few : n ≤ room-for-frames) where
   abbrev F : ℕ → ℕ → ℕ
   F = frames l
 

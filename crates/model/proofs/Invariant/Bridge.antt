@@ -6,6 +6,7 @@ use mathlib.Core.Option.{Option, some}
 use Prim.Native.Nat.{ℕ, zero, suc, _+_, _*_, _-_, _≤_, _<_, _/_, _%_, _^_}
 use native.Mathlib.Omega.{arith}
 use lib.ListN.{length}
+use Rattle.memory.specs.Ram.{fewest-frames, most-frames}
 use Rattle.walk_descriptor.specs.declared.FaultKind.the-variants.{Translation, Permission}
 use Rattle.walk.specs.Memory.{read-at}
 use Rattle.walk_descriptor.specs.Descriptor.{span, slot, address, allows-2}
@@ -129,7 +130,7 @@ module _ (s : State) (c : Core s) (b : ℕ) (m : List ℕ) (x : Image s b m) (g 
       }
 
   -- the public answer, where n fits document 01
-  pub answer-says : 16 ≤ s .size → s .size ≤ 65536 → s .exists g ≡ true → a < 2 ^ 48 → answer-2 m b (s .size) (b + 4096 * s .root g) a (access w) ≡ answers s b g a w
+  pub answer-says : fewest-frames ≤ s .size → s .size ≤ most-frames → s .exists g ≡ true → a < 2 ^ 48 → answer-2 m b (s .size) (b + 4096 * s .root g) a (access w) ≡ answers s b g a w
   unfolding answers
   answer-says least most e l =
       let z = walk-ends e l in
@@ -137,6 +138,6 @@ module _ (s : State) (c : Core s) (b : ℕ) (m : List ℕ) (x : Image s b m) (g 
       let inside = low s c root (table g 3 0) (c .roots g e) refl in
       let room = c .room in
       let base = x .base in
-      answer-2-is m b (s .size) (record { least = least; most = most; aligned = omega arith; low = omega arith; long = x .long }) (b + 4096 * root) a (access w) (omega arith) (omega arith) (access-low w) l
+      answer-2-is m b (s .size) (record { ram = record { least = least; most = most; aligned = omega arith; low = omega arith }; long = x .long }) (b + 4096 * root) a (access w) (omega arith) (omega arith) (access-low w) l
       ∙ ap (λ (r : One). tell-2 r (length (stage-2 m b (b + 4096 * root) (access w) a .fetched))) (z .result)
       ∙ ap (tell-2 (says s b g a w)) (z .count)

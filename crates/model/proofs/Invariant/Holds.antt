@@ -6,6 +6,8 @@ use Prim.Native.Nat.{ℕ, _+_, _*_, _≤_, _<_, _/_, _%_}
 use native.Mathlib.Omega.{arith}
 use lib.Dec.{eqb, ltb, leb}
 use borrow.Author.Tests.{le-leb, leb-true}
+use Rattle.memory.specs.Ram.{frame-bytes, ram-fits}
+use Rattle.memory.proofs.Laws.Ram.{fits-so}
 use Rattle.model.proofs.Laws.Base.{and-true, sum-none}
 use Rattle.model.specs.Base.{sum}
 use Rattle.model.specs.State.{State, Frame-kind, monitor, free, table, draining-table, page, draining-page, page-count}
@@ -142,17 +144,17 @@ module _ (n k : ℕ) where
 pub nothing-ok : (s : State) → Kept s nothing-kept
 nothing-ok s = record { table-ok = λ g h p x a. absurd a; page-ok = λ g v x r a. absurd a; table-now = λ g h p x d a. absurd a; page-now = λ g v x r d a. absurd a }
 
-fits-room : (fits : Bool) (n b k : ℕ) → (fits && leb 16 n && leb n 65536 && eqb (b % 4096) 0 && leb (b + 4096 * n) 0x1000000000000 && ltb k n) ≡ true → b / 4096 + n ≤ page-count
+fits-room : (fits : Bool) (n b k : ℕ) → (fits && ram-fits b n && ltb k n) ≡ true → b / frame-bytes + n ≤ page-count
 fits-room fits n b k e =
-    let a = and-true (fits && leb 16 n && leb n 65536 && eqb (b % 4096) 0 && leb (b + 4096 * n) 0x1000000000000) (ltb k n) e .0 in
-    let d = leb-true (b + 4096 * n) 0x1000000000000 (and-true (fits && leb 16 n && leb n 65536 && eqb (b % 4096) 0) (leb (b + 4096 * n) 0x1000000000000) a .1) in
+    let both = and-true (fits && ram-fits b n) (ltb k n) e .0 in
+    let low = fits-so b n (and-true fits (ram-fits b n) both .1) .low in
     omega arith
 
 pub set-up-core : (fits : Bool) (n b k : ℕ) (w : ℕ → ℕ → ℕ) (s : State) → set-up fits n b k w ≡ done s → Core s
 unfolding set-up check
-set-up-core fits n b k w s e = go (fits && leb 16 n && leb n 65536 && eqb (b % 4096) 0 && leb (b + 4096 * n) 0x1000000000000 && ltb k n) refl e
+set-up-core fits n b k w s e = go (fits && ram-fits b n && ltb k n) refl e
   where
-    go : (t : Bool) → (fits && leb 16 n && leb n 65536 && eqb (b % 4096) 0 && leb (b + 4096 * n) 0x1000000000000 && ltb k n) ≡ t → check t 4 (done (started n b k w)) ≡ done s → Core s
+    go : (t : Bool) → (fits && ram-fits b n && ltb k n) ≡ t → check t 4 (done (started n b k w)) ≡ done s → Core s
     go true q e = let z : started n b k w ≡ s = cc in rw z at (started-core n k b w (fits-room fits n b k q))
     go false q e = let z : _≡_ {A = ℕ} 0 1 = cc in absurd (omega arith)
 

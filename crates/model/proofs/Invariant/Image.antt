@@ -8,6 +8,8 @@ use native.Mathlib.Nat.{div-one}
 use lib.ListN.{length, getD}
 use lib.Dec.{eqb, ltb, leb}
 use borrow.Author.Tests.{eqb-true}
+use Rattle.memory.specs.Ram.{ram-fits}
+use Rattle.memory.proofs.Laws.Ram.{fits-so}
 use Rattle.memory.specs.Word.{word-at}
 use Rattle.memory.proofs.Laws.Bytes.{word-bytes, byte-above, bytes-made, bytes-there}
 use Rattle.model.proofs.Laws.Base.{and-true}
@@ -39,13 +41,7 @@ module _ (n b k : ℕ) (m : List ℕ) (long : length m ≡ 4096 * n) where
 
   accepted : Then (λ s. Image s b m) (set-up true n b k (λ f i. word-at m (4096 * f + 8 * i)))
   unfolding set-up
-  accepted = checked 4 λ q. then-done (started-image (eqb-true (b % 4096) 0 (whole q)))
-    where
-      whole : (true && leb 16 n && leb n 65536 && eqb (b % 4096) 0 && leb (b + 4096 * n) 0x1000000000000 && ltb k n) ≡ true → eqb (b % 4096) 0 ≡ true
-      whole q =
-          let t1 = and-true (true && leb 16 n && leb n 65536 && eqb (b % 4096) 0 && leb (b + 4096 * n) 0x1000000000000) (ltb k n) q .0 in
-          let t2 = and-true (true && leb 16 n && leb n 65536 && eqb (b % 4096) 0) (leb (b + 4096 * n) 0x1000000000000) t1 .0 in
-          and-true (true && leb 16 n && leb n 65536) (eqb (b % 4096) 0) t2 .1
+  accepted = checked 4 λ q. then-done (started-image (fits-so b n (and-true (ram-fits b n) (ltb k n) q .0) .aligned))
 
   pub set-up-image : (s : State) → set-up true n b k (λ f i. word-at m (4096 * f + 8 * i)) ≡ done s → Image s b m
   set-up-image s e = then-is (set-up true n b k (λ f i. word-at m (4096 * f + 8 * i))) s accepted e

@@ -7,6 +7,7 @@ use Prim.Native.Nat.{ℕ, zero, suc, _+_, _*_, _<_, _/_, _%_}
 use native.Mathlib.Omega.{arith}
 use lib.Dec.{eqb, ltb, leb}
 use borrow.Author.Tests.{eqb-true}
+use Rattle.memory.specs.Ram.{ram-fits}
 use Rattle.model.proofs.Laws.Base.{lt?, and-true}
 use Rattle.model.specs.Base.{sum}
 use Rattle.model.specs.State.{State, Frame-kind, monitor, free, table, draining-table, page, draining-page, page-count}
@@ -26,7 +27,7 @@ use Rattle.model.proofs.Invariant.Linked.{Linked, answer-linked, stored
 
 pub set-up-linked : (fits : Bool) (n b k : ℕ) (w : ℕ → ℕ → ℕ) (s : State) → set-up fits n b k w ≡ done s → Linked s
 unfolding set-up check started
-set-up-linked fits n b k w s e = go (fits && leb 16 n && leb n 65536 && eqb (b % 4096) 0 && leb (b + 4096 * n) 0x1000000000000 && ltb k n) e
+set-up-linked fits n b k w s e = go (fits && ram-fits b n && ltb k n) e
   where
     go : (t : Bool) → check t 4 (done (started n b k w)) ≡ done s → Linked s
     go true e = let z : started n b k w ≡ s = cc in let y : Linked (started n b k w) = record { hangs = λ t g h p a. absurd (neither n k t (table g h p) a refl refl) } in rw z at y

@@ -1,10 +1,11 @@
 -- What set-up checked stays: where RAM begins, and the number of its frames.
 use mathlib.Core.Path.{_≡_, refl, sym, ap, _∙_}
-use mathlib.Core.Bool.{Bool, true, _&&_}
-use Prim.Native.Nat.{ℕ, _+_, _*_, _≤_, _%_}
+use mathlib.Core.Bool.{true, _&&_}
+use Prim.Native.Nat.{ℕ, _*_, _≤_}
 use native.Mathlib.Omega.{arith}
-use lib.Dec.{eqb, ltb, leb}
-use borrow.Author.Tests.{leb-true, eqb-true}
+use lib.Dec.{ltb}
+use Rattle.memory.specs.Ram.{frame-bytes, fewest-frames, most-frames, ram-fits}
+use Rattle.memory.proofs.Laws.Ram.{Ram-fits, fits-so}
 use Rattle.model.proofs.Laws.Base.{and-true}
 use Rattle.model.specs.State.{State}
 use Rattle.model.specs.Operations.{done, started, set-up}
@@ -27,26 +28,19 @@ run-same {m} r h = run-keeps (Same-place (m .state)) answered written r h (recor
     written : Stores-keep (Same-place (m .state))
     written m h p g f o x n b a = unfold stored in record { first = p .first; size = p .size }
 
--- "n frames [..], 16 <= n <= 65,536, from physical address b, a multiple of 4,096"
+-- RAM is one that document 01, section 1 describes
 pub record Place (n b : ℕ) (s : State) : Type 0 where
-  pub least : 16 ≤ n
-  pub most : n ≤ 65536
-  pub base : b ≡ 4096 * s .first
+  pub ram : Ram-fits b n
+  pub base : b ≡ frame-bytes * s .first
   pub size : s .size ≡ n
 
 module _ (n b k : ℕ) (w : ℕ → ℕ → ℕ) where
-  abbrev fits : Bool
-  fits = true && leb 16 n && leb n 65536 && eqb (b % 4096) 0 && leb (b + 4096 * n) 0x1000000000000 && ltb k n
-
-  started-place : fits ≡ true → Place n b (started n b k w)
+  started-place : (true && ram-fits b n && ltb k n) ≡ true → Place n b (started n b k w)
   unfolding started
   started-place q =
-      let t1 = and-true (true && leb 16 n && leb n 65536 && eqb (b % 4096) 0 && leb (b + 4096 * n) 0x1000000000000) (ltb k n) q .0 in
-      let t2 = and-true (true && leb 16 n && leb n 65536 && eqb (b % 4096) 0) (leb (b + 4096 * n) 0x1000000000000) t1 .0 in
-      let t3 = and-true (true && leb 16 n && leb n 65536) (eqb (b % 4096) 0) t2 in
-      let t4 = and-true (true && leb 16 n) (leb n 65536) (t3 .0) in
-      let whole = eqb-true (b % 4096) 0 (t3 .1) in
-      record { least = leb-true 16 n (t4 .0); most = leb-true n 65536 (t4 .1); base = omega arith; size = refl }
+      let ram = fits-so b n (and-true (ram-fits b n) (ltb k n) q .0) in
+      let whole = ram .aligned in
+      record { ram = ram; base = omega arith; size = refl }
 
   set-up-place : (s : State) → set-up true n b k w ≡ done s → Place n b s
   set-up-place s e = then-is (set-up true n b k w) s accepted e
@@ -58,8 +52,13 @@ pub placed : {m z : Machine} (x : SetUp m) → Run m z → Place (x .n) (x .b) (
 placed {m} {z} x r =
     let a = set-up-place (x .n) (x .b) (x .k) (x .word) (m .state) (x .accepted) in
     let b = run-same r (set-up-holds x) in
-    record { least = a .least; most = a .most; base = a .base ∙ ap (λ (u : ℕ). 4096 * u) (sym (b .first)); size = b .size ∙ a .size }
+    record { ram = a .ram; base = a .base ∙ ap (λ (u : ℕ). frame-bytes * u) (sym (b .first)); size = b .size ∙ a .size }
 
 -- so a number of frames that document 01 describes
-pub frames-fit : {m z : Machine} → SetUp m → Run m z → (16 ≤ z .state .size) × (z .state .size ≤ 65536)
-frames-fit x r = let p = placed x r in let n = p .size in let l = p .least in let h = p .most in (omega arith, omega arith)
+pub frames-fit : {m z : Machine} → SetUp m → Run m z → (fewest-frames ≤ z .state .size) × (z .state .size ≤ most-frames)
+frames-fit x r =
+    let p = placed x r in
+    let n = p .size in
+    let l = p .ram .least in
+    let h = p .ram .most in
+    (omega arith, omega arith)

@@ -7,6 +7,7 @@ use Prim.Native.Nat.{ℕ, suc, _+_, _*_, _<_, _/_, _%_}
 use native.Mathlib.Omega.{arith}
 use lib.Dec.{eqb, ltb, leb}
 use borrow.Author.Tests.{leb-true, le-leb, eq-eqb}
+use Rattle.memory.specs.Ram.{ram-fits}
 use Rattle.model.proofs.Laws.Base.{bool?}
 use Rattle.model.specs.Base.{upd2}
 use Rattle.model.proofs.Laws.Base.{upd2-other}
@@ -270,7 +271,7 @@ together-all (then x r) p = together-all r (together x p)
 -- right after set-up: nothing is shown, and nothing was kept
 pub started-is : (fits : Bool) (n b k : ℕ) (w : ℕ → ℕ → ℕ) (s : State) → set-up fits n b k w ≡ done s → s ≡ started n b k w
 unfolding set-up check
-started-is fits n b k w s e = go (fits && leb 16 n && leb n 65536 && eqb (b % 4096) 0 && leb (b + 4096 * n) 0x1000000000000 && ltb k n) e
+started-is fits n b k w s e = go (fits && ram-fits b n && ltb k n) e
   where
     go : (t : Bool) → check t 4 (done (started n b k w)) ≡ done s → s ≡ started n b k w
     go true e = cc

@@ -14,7 +14,7 @@ use Rattle.model.proofs.Laws.Base.{upd-at, upd-other}
 use Rattle.model.specs.State.{State, Frame-kind, monitor, is-guest}
 use Rattle.model.specs.Changes.{zeros, drained, released}
 use Rattle.ledger.specs.Cells.{cell}
-use Rattle.ledger.specs.Layout.{most-frames, frames, kind-in, per-guest, count-part, size-of, kind-of, count-of, state-in, state-of}
+use Rattle.ledger.specs.Layout.{room-for-frames, frames, kind-in, per-guest, count-part, size-of, kind-of, count-of, state-in, state-of}
 use Rattle.ledger.specs.Fields.{remade, with-kind, with-kind-by, with-count}
 use Rattle.ledger.specs.LedgerSound.{Ledger-sound, Changed}
 use Rattle.ledger.proofs.Laws.LedgerSound.{changed-as, changed-then}
@@ -71,7 +71,7 @@ count-past l s f h = fun-ext (λ g. elim (bool? (is-guest g)) [
 ])
   where
     cell-past : (j : ℕ) → frames l j f ≡ 0
-    cell-past j = unfold cell in go (ltb j 16 && ltb f most-frames)
+    cell-past j = unfold cell in go (ltb j 16 && ltb f room-for-frames)
       where
         gone : getD l (144 + 16 * f + j) 0 ≡ 0
         gone = List·getD-eq-default l 0 (let a = s .length-fits in omega arith)

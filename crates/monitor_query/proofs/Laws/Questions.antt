@@ -5,6 +5,7 @@ use mathlib.Core.List.{List}
 use Prim.Native.Nat.{ℕ, _+_, _*_, _<_, _≤_, _^_}
 use native.Mathlib.Omega.{arith}
 use borrow.Author.Tests.{lt-ltb}
+use Rattle.memory.specs.Ram.{fewest-frames, most-frames}
 use Rattle.memory.specs.Word.{word-at}
 use Rattle.model.specs.State.{Frame-kind, monitor, free, table, draining-table, page, draining-page, page-count, total}
 use Rattle.model.specs.Cache.{Access}
@@ -51,7 +52,7 @@ module _ (m l : List ℕ) (ok : Sound m l) where
   }
 
   -- what the host is told is what the state says, of every n that set-up admits
-  pub translation-says : (g a : ℕ) (w : Access) → 16 ≤ size-of l → size-of l ≤ 65536 → exists-of l g ≡ true → a < 2 ^ 48 →
+  pub translation-says : (g a : ℕ) (w : Access) → fewest-frames ≤ size-of l → size-of l ≤ most-frames → exists-of l g ≡ true → a < 2 ^ 48 →
       translated m l g a (access w) ≡ answers (state-of m l) (4096 * first-of l) g a w
   unfolding translated state-in
   translation-says g a w least most e low =

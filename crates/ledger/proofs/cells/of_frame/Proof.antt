@@ -2,7 +2,7 @@
 -- The word at the place is the cell.
 use Prim.Native.Nat.{_+_, _*_}
 use Rattle.ledger.proofs.Laws.Cells.{cell-at}
-use Rattle.ledger.specs.Layout.{most-frames}
+use Rattle.ledger.specs.Layout.{room-for-frames}
 use borrow.Author.Needs.{needs}
 use native.Mathlib.Omega.{arith}
 use Rattle.ledger.proofs.cells.of_frame.Statement.{statement}
@@ -27,7 +27,7 @@ cast-result : tie.Need-cast-result
 cast-result c = omega (arith, c .shared-slice-known .given (144 + 16 * c .before .args .f + c .before .args .column))
 
 returns : tie.Need-returns
-returns c = (cell-at 144 most-frames (c .before .args .ledger .now) (c .before .args .column) (c .before .args .f) (c .before .pre .0) (c .before .pre .1 .0), omega (arith, c .shared-slice-known .given (144 + 16 * c .before .args .f + c .before .args .column)))
+returns c = (cell-at 144 room-for-frames (c .before .args .ledger .now) (c .before .args .column) (c .before .args .f) (c .before .pre .0) (c .before .pre .1 .0), omega (arith, c .shared-slice-known .given (144 + 16 * c .before .args .f + c .before .args .column)))
 
 pub of-frame-spec : {M : Type 1} → statement M
 of-frame-spec =

@@ -14,13 +14,13 @@ allowed-requires : tie.Need-allowed-requires
 allowed-requires c κs = search needs
 
 mul-n : tie.Need-mul-n
-mul-n c = omega (arith, (allowed _ _ _ _ _ ((sym (c .before .allowed .ensures) ∙ c .if1 .taken))) .many)
+mul-n c = omega (arith, (allowed _ _ _ _ _ ((sym (c .before .allowed .ensures) ∙ c .if1 .taken))) .ram .most)
 
 mul-w : tie.Need-mul-w
-mul-w c = omega (arith, (allowed _ _ _ _ _ ((sym (c .before .allowed .ensures) ∙ c .if1 .taken))) .many)
+mul-w c = omega (arith, (allowed _ _ _ _ _ ((sym (c .before .allowed .ensures) ∙ c .if1 .taken))) .ram .most)
 
 add-w : tie.Need-add-w
-add-w c = omega (arith, (allowed _ _ _ _ _ ((sym (c .before .allowed .ensures) ∙ c .if1 .taken))) .many)
+add-w c = omega (arith, (allowed _ _ _ _ _ ((sym (c .before .allowed .ensures) ∙ c .if1 .taken))) .ram .most)
 
 clear-requires : tie.Need-clear-requires
 clear-requires c κs = omega (arith, (allowed _ _ _ _ _ ((sym (c .before .before .allowed .ensures) ∙ c .before .if1 .taken))) .enough)
