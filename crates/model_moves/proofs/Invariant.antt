@@ -18,3 +18,5 @@ pub mod Led
 pub mod Allowed
 pub mod Levels
 pub mod LevelsKept
+pub mod Monitors
+pub mod Always

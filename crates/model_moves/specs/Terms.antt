@@ -1,11 +1,11 @@
--- Words for the statements.
+-- Words for the statements on isolation: how a machine begins, and what a space is allowed to do with a frame.
 use mathlib.Core.Path.{_≡_}
 use mathlib.Core.Bool.{Bool, true, false}
 use mathlib.Core.Logic.{_⊎_}
-use Prim.Native.Nat.{ℕ, _+_, _/_}
+use Prim.Native.Nat.{ℕ, _+_, _≤_, _/_}
 use Rattle.model.specs.Cache.{Access}
 use Rattle.model.specs.Terms.{lends}
-use Rattle.model_moves.specs.Spaces.{Spaces, monitor, free, page, draining, exists}
+use Rattle.model_moves.specs.Spaces.{Spaces, Frame-use, monitor, free, claimed, table, emptied, page, draining, exists}
 use Rattle.model_moves.specs.Cache.{Caches, Reach}
 use Rattle.model_moves.specs.Moves.{Move, put, claim, link, enter, clear, unhook, hand, lend, retire, release, open-space, end, dissolve}
 use Rattle.model_moves.specs.Machine.{Machine, Step, moves, reports, looks, stores}
@@ -61,3 +61,24 @@ Host-stores (moves s a) f = Host-move a f
 Host-stores (reports c R D r) f = ⊥
 Host-stores (looks k l) f = ⊥
 Host-stores (stores c f o b l a) g = ⊥
+
+-- the step is a store of space c to frame f
+abbrev pub Stores-by : {m z : Machine} → Step m z → (c f : ℕ) → Type 0
+Stores-by (moves s a) c f = ⊥
+Stores-by (reports d R D r) c f = ⊥
+Stores-by (looks k l) c f = ⊥
+Stores-by (stores d a o b l w) c f = (d ≡ c) × (a ≡ f)
+
+-- what nobody may reach: a table, in use, claimed or emptied, a free frame, the monitor's
+abbrev pub Hidden : Frame-use → Type 0
+Hidden monitor = Unit {0}
+Hidden free = Unit {0}
+Hidden (claimed c h p) = Unit {0}
+Hidden (table c h p) = Unit {0}
+Hidden (emptied c h p) = Unit {0}
+Hidden (page g) = ⊥
+Hidden (draining g) = ⊥
+
+-- all frames beyond RAM are called the monitor's
+abbrev pub Bounded : Machine → Type 0
+Bounded m = (t : ℕ) → m .spaces .size ≤ t → m .spaces .kind t ≡ monitor

@@ -5,6 +5,7 @@ use mathlib.Core.Logic.{_⊎_, inl, inr}
 use Prim.Native.Nat.{ℕ, _+_, _*_, _%_}
 use native.Mathlib.Omega.{arith}
 use lib.Dec.{eqb, ltb, leb}
+use Rattle.memory.specs.Ram.{ram-fits}
 use Rattle.model.specs.State
 use Rattle.model.specs.Operations.{Out, refuse, done, set-up, check, at-first, started}
 use Rattle.model.specs.Cache
@@ -28,12 +29,12 @@ use Rattle.model_paths.proofs.Operations.Share.{share-goes, unshare-goe
 use Rattle.model_paths.proofs.Operations.Destroy.{destroy-goes}
 use Rattle.model_paths.proofs.Operations.Invalidated.{invalidated-goes}
 use Rattle.model_paths.proofs.Operations.Map.{map-goes}
-use Rattle.model_paths.specs.Goes.{Goes, guest, Ended, Ready}
+use Rattle.model_paths.specs.Goes.{Goes, Ended, Ready}
 use Rattle.model_paths.proofs.Ended.{answer-ended}
 
 -- the path of an operation that is answered 0
 pub answer-goes : (s : State.State) → Ledger-core s → Ended s → Core (view s) → (o : Operation) → Chooses s o →
-    Then (Goes (guest o) s) (answer s o)
+    Then (Goes s o) (answer s o)
 unfolding answer
 answer-goes s c n k (Create g pick) ch = create-goes s c n g pick ch
 answer-goes s c n k (Give f g) ch = give-goes s c f g
@@ -45,13 +46,13 @@ answer-goes s c n k (Unshare g f h) ch = unshare-goes s c n g f h
 answer-goes s c n k (Destroy g) ch = destroy-goes s c n k g
 answer-goes s c n k (Invalidated g) ch = invalidated-goes s c n g
 
-pub ready-goes : (s : State.State) → Ready s → (o : Operation) → Chooses s o → Then (λ s′. Goes (guest o) s s′ × Ready s′) (answer s o)
+pub ready-goes : (s : State.State) → Ready s → (o : Operation) → Chooses s o → Then (λ s′. Goes s o s′ × Ready s′) (answer s o)
 ready-goes s y o ch =
     go (answer s o) (answer-goes s (y .ledger) (y .ended) (y .spaces) o ch)
     (then-more (answer s o) (λ s x. x .core) (answer-good s (y .ledger) Cache.nothing-kept (Holds.nothing-ok s) o ch))
     (answer-ended s (y .ledger) (y .ended) o ch)
   where
-    go : (x : Out) → Then (Goes (guest o) s) x → Then Ledger-core x → Then Ended x → Then (λ s′. Goes (guest o) s s′ × Ready s′) x
+    go : (x : Out) → Then (Goes s o) x → Then Ledger-core x → Then Ended x → Then (λ s′. Goes s o s′ × Ready s′) x
     go (refuse n) a b d = then-refuse
     go (done s′) (then-done a) (then-done b) (then-done d) =
         then-done (a, record { ledger = b; ended = d; spaces = path-core (a .0) (y .spaces) })
@@ -83,7 +84,7 @@ module _ (n b m : ℕ) (w : ℕ → ℕ → ℕ) where
 pub set-up-ready : (fits : Bool) (n b m : ℕ) (w : ℕ → ℕ → ℕ) (s : State.State) → set-up fits n b m w ≡ done s →
     Start (record { spaces = view s; caches = nothing-kept }) × Ready s
 unfolding set-up check
-set-up-ready fits n b m w s e = go (fits && leb 16 n && leb n 65536 && eqb (b % 4096) 0 && leb (b + 4096 * n) 0x1000000000000 && ltb m n) e
+set-up-ready fits n b m w s e = go (fits && ram-fits b n && ltb m n) e
   where
     go : (t : Bool) → check t 4 (done (started n b m w)) ≡ done s → Start (record { spaces = view s; caches = nothing-kept }) × Ready s
     go true e′ =

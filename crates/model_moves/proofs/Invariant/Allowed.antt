@@ -21,7 +21,7 @@ use Rattle.model_moves.proofs.Invariant.Draining.{set-from}
 use Rattle.model_moves.proofs.Invariant.Entries.{same-frame}
 use Rattle.model_moves.proofs.Invariant.Holds.{Belongs, belongs-at, led-belongs, Good, move-holds, store-frame}
 use Rattle.model_moves.proofs.Invariant.Led.{Added, led-before}
-use Rattle.model_moves.specs.Terms.{Start, Reaches, Allowed, Handed, Host-move, Host-stores}
+use Rattle.model_moves.specs.Terms.{Start, Reaches, Allowed, Handed, Host-move, Host-stores, Stores-by, Hidden}
 
 lends-is : (how r : ℕ) (w : Access) → shares how r ≡ true → grants r w ≡ true → lends how w ≡ true
 unfolding shares
@@ -58,6 +58,16 @@ pub not-allowed : (s : Spaces) (c f : ℕ) (w : Access) (x : Frame-use) → s .k
 not-allowed s c f w x e a b (inl h) = clash {x = page (s .space c .serves)} {y = x} (sym h ∙ e) a
 not-allowed s c f w x e a b (inr (inl h)) = clash {x = page (h .0)} {y = x} (sym (h .1) ∙ e) a
 not-allowed s c f w x e a b (inr (inr h)) = clash {x = draining (s .space c .serves)} {y = x} (sym (h .0) ∙ e) b
+
+-- a page of o, that is somebody's who may use it so
+pub page-allowed : (s : Spaces) (o c f : ℕ) (w : Access) → s .kind f ≡ page o → Allowed s c f w →
+    (o ≡ s .space c .serves) ⊎ (lends (s .shared f c) w ≡ true)
+page-allowed s o c f w k (inl a) = inl (same-page (sym k ∙ a))
+  where
+    same-page : {g h : ℕ} → page g ≡ page h → g ≡ h
+    same-page {g} {h} e = cc
+page-allowed s o c f w k (inr (inl a)) = inr (a .2)
+page-allowed s o c f w k (inr (inr a)) = absurd (clash {x = page o} {y = draining (s .space c .serves)} (sym k ∙ a .0) refl)
 
 -- two spaces that serve different guests
 pub both-allowed : (s : Spaces) (c d f : ℕ) (w w′ : Access) → (s .space c .serves ≡ s .space d .serves → ⊥) → Allowed s c f w →
@@ -215,11 +225,22 @@ handed y (looks k l) f g ny e = absurd (ny e)
 handed y (stores c i o b l a) f g ny e = absurd (ny e)
 
 pub kept-words : {z z′ : Machine} → Good z → (t : Step z z′) (f g i : ℕ) → z .spaces .kind f ≡ page g →
-    (z′ .spaces .word f i ≡ z .spaces .word f i) ⊎ (Host-stores t f ⊎ ((c : ℕ) × Allowed (z .spaces) c f writing))
+    (z′ .spaces .word f i ≡ z .spaces .word f i) ⊎ (Host-stores t f ⊎ ((c : ℕ) × Stores-by t c f × Allowed (z .spaces) c f writing))
 kept-words y (moves s a) f g i e = elim (page-words a f i (ap untabled e)) [ inl b ↦ inl b | inr b ↦ inr (inl b) ]
 kept-words y (reports c R D p) f g i e = inl refl
 kept-words y (looks k l) f g i e = inl refl
 kept-words {z} y (stores c f′ o b l a) f g i e = elim (eq? f f′) [
   | inr n ↦ inl (upd2-other (z .spaces .word) f′ (o / 8) _ f i (λ p q. n p))
-  | inl p ↦ let w = store-frame z y c f′ o l a in inr (inr (c, belongs-allowed (z .spaces) c f (w .0) writing (w .2) (rw p (w .1))))
+  | inl p ↦
+      let w = store-frame z y c f′ o l a in
+      inr (inr (c, (refl, sym p), belongs-allowed (z .spaces) c f (w .0) writing (w .2) (rw p (w .1))))
 ]
+
+pub hidden-not : (s : Spaces) (c f : ℕ) (w : Access) (x : Frame-use) → s .kind f ≡ x → Hidden x → Allowed s c f w → ⊥
+hidden-not s c f w monitor e h a = not-allowed s c f w monitor e refl refl a
+hidden-not s c f w free e h a = not-allowed s c f w free e refl refl a
+hidden-not s c f w (claimed d n p) e h a = not-allowed s c f w (claimed d n p) e refl refl a
+hidden-not s c f w (table d n p) e h a = not-allowed s c f w (table d n p) e refl refl a
+hidden-not s c f w (emptied d n p) e h a = not-allowed s c f w (emptied d n p) e refl refl a
+hidden-not s c f w (page g) e h a = absurd h
+hidden-not s c f w (draining g) e h a = absurd h

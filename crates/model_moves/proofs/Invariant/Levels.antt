@@ -14,7 +14,6 @@ use Rattle.model_moves.specs.Moves.{Report, reported}
 use Rattle.model_moves.proofs.Invariant.Core.{Table-is, Core, Kept, Gone, no-next, no-output, next-not, above, only-here}
 use Rattle.model_moves.proofs.Invariant.Found.{table-found, table-traced, table-found-gone}
 use Rattle.model_moves.proofs.Invariant.Report
-use Prim.Native.Nat.{ℕ}
 
 -- page v's leaf is at height l
 abbrev pub Leaf-at : Spaces → (c v l : ℕ) → Type 0

@@ -6,34 +6,43 @@ use Rattle.model_moves.specs.Spaces.{Spaces}
 use Rattle.model_moves.specs.Cache.{Caches}
 use Rattle.model_moves.specs.Machine.{Machine, moves, reports, looks, Run, stop, then}
 use Rattle.model_moves.specs.Moves.{Move, Report, reported}
-use Rattle.model_moves.specs.Path.{Path, here, move, report, Watched, at-end, at-move, at-report, For, Concerns, Way}
+use Rattle.model_moves.specs.Path.{Path, here, move, report, Watched, at-end, at-move, at-report, Deed, tells, deed, Along, Way}
 
 pub append : {a b c : Spaces} → Path a b → Path b c → Path a c
 append here q = q
 append (move m p) q = move m (append p q)
 append (report c R D r p) q = report c R D r (append p q)
 
-append-concerns : (g : ℕ) {a b c : Spaces} (p : Path a b) (q : Path b c) → Concerns g p → Concerns g q → Concerns g (append p q)
+append-along : (D : Deed → Type 0) {a b c : Spaces} (p : Path a b) (q : Path b c) → Along D p → Along D q → Along D (append p q)
 unfolding append
-append-concerns g here q x y = y
-append-concerns g (move m p) q x y = (x .0, append-concerns g p q (x .1) y)
-append-concerns g (report c R D r p) q x y = (x .0, append-concerns g p q (x .1) y)
+append-along D here q x y = y
+append-along D (move m p) q x y = (x .0, append-along D p q (x .1) y)
+append-along D (report c R E r p) q x y = (x .0, append-along D p q (x .1) y)
 
--- ways, move by move
-pub stay : {g : ℕ} {s : Spaces} → Way g s s
+along-more : {D E : Deed → Type 0} {a b : Spaces} (p : Path a b) → ((d : Deed) → D d → E d) → Along D p → Along E p
+along-more here more x = tt
+along-more (move m p) more x = (more (deed m) (x .0), along-more p more (x .1))
+along-more (report c R F r p) more x = (more (tells c) (x .0), along-more p more (x .1))
+
+-- ways, deed by deed
+pub stay : {D : Deed → Type 0} {s : Spaces} → Way D s s
 stay = (here, tt)
 
-pub by : {g : ℕ} {s s′ z : Spaces} (m : Move s s′) → For g m → Way g s′ z → Way g s z
-by m f w = (move m (w .0), (f, w .1))
+pub by : {D : Deed → Type 0} {s s′ z : Spaces} (m : Move s s′) → D (deed m) → Way D s′ z → Way D s z
+by m d w = (move m (w .0), (d, w .1))
 
-pub telling : {g : ℕ} {s z : Spaces} (c : ℕ) (R D : ℕ → Bool) (r : Report s c R D) → c ≡ g → Way g (reported s c D) z → Way g s z
-telling c R D r e w = (report c R D r (w .0), (e, w .1))
+pub telling : {D : Deed → Type 0} {s z : Spaces} (c : ℕ) (R E : ℕ → Bool) (r : Report s c R E) → D (tells c) →
+    Way D (reported s c E) z → Way D s z
+telling c R E r d w = (report c R E r (w .0), (d, w .1))
 
-pub onward : {g : ℕ} {a b c : Spaces} → Way g a b → Way g b c → Way g a c
-onward {g} x y = (append (x .0) (y .0), append-concerns g (x .0) (y .0) (x .1) (y .1))
+pub onward : {D : Deed → Type 0} {a b c : Spaces} → Way D a b → Way D b c → Way D a c
+onward {D} x y = (append (x .0) (y .0), append-along D (x .0) (y .0) (x .1) (y .1))
 
-pub way-to : {g : ℕ} {a b c : Spaces} → Way g a b → b ≡ c → Way g a c
-way-to {g} {a} w e = subst (λ z. Way g a z) e w
+pub way-to : {D : Deed → Type 0} {a b c : Spaces} → Way D a b → b ≡ c → Way D a c
+way-to {D} {a} w e = subst (λ z. Way D a z) e w
+
+pub way-more : {D E : Deed → Type 0} {a b : Spaces} → ((d : Deed) → D d → E d) → Way D a b → Way E a b
+way-more more w = (w .0, along-more (w .0) more (w .1))
 
 -- A watched path is a run, and every theorem on runs holds at each of its moments
 pub watched-run : {s z : Spaces} {p : Path s z} {k k″ : Caches} → Watched s z p k k″ →

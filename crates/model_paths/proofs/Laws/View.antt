@@ -1,5 +1,5 @@
 -- Laws of specs/View: states over spaces that are equal part by part; a word stored; a frame cleared, word by word.
-use mathlib.Core.Path.{_≡_, refl, sym, ap, _∙_}
+use mathlib.Core.Path.{subst, _≡_, refl, sym, ap, _∙_}
 use mathlib.Core.Bool.{Bool, true, false, _&&_, cond}
 use mathlib.Core.Logic.{inl, inr}
 use Prim.Native.Nat.{ℕ, zero, suc, _<_}
@@ -13,7 +13,7 @@ use Rattle.model.specs.Invariant as Invariant
 use Rattle.model.proofs.Invariant.Core
 use Rattle.model_moves.specs.Spaces.{Spaces, Space, free, exists, with-word, store}
 use Rattle.model_moves.specs.Moves.{untabled, put}
-use Rattle.model_moves.specs.Path.{Way}
+use Rattle.model_moves.specs.Path.{Deed, puts, Way}
 use Rattle.model_moves.proofs.Laws.Paths.{stay, by, onward, way-to}
 use Rattle.model_paths.specs.View.{use-of, words-of, view}
 
@@ -68,21 +68,21 @@ wiped-more w f n t i = elim (eq? t f) [
   ]
 ]
 
-pub wipe : {g : ℕ} (s : Spaces) (f : ℕ) → s .kind f ≡ free → (n : ℕ) → Way g s (with-word s (wiped (s .word) f n))
-wipe s f e zero =
+pub wipe : {D : Deed → Type 0} (s : Spaces) (f : ℕ) → s .kind f ≡ free → D (puts f free) → (n : ℕ) → Way D s (with-word s (wiped (s .word) f n))
+wipe s f e d zero =
     way-to stay (same s (with-word s (wiped (s .word) f 0)) refl refl (λ f. refl) (λ f c. refl) (λ f c j. refl) (λ c. refl)
     (λ c j v. refl) none)
   where
     none : (t i : ℕ) → s .word t i ≡ wiped (s .word) f 0 t i
     none t i = elim (bool? (eqb t f)) [ inl e ↦ rw (e, le-ltb i 0 (omega arith)) | inr e ↦ rw e ]
-wipe s f e (suc n) = onward (wipe s f e n) (by (put f n 0 (ap untabled e)) e (way-to stay
+wipe {D} s f e d (suc n) = onward (wipe s f e d n) (by (put f n 0 (ap untabled e)) (subst D (ap (puts f) (sym e)) d) (way-to stay
     (same (store (with-word s (wiped (s .word) f n)) f n 0) (with-word s (wiped (s .word) f (suc n))) refl refl (λ f. refl) (λ f c. refl)
     (λ f c j. refl) (λ c. refl) (λ c j v. refl) (wiped-more (s .word) f n))))
 
 -- a free frame is cleared: 512 stores
-pub clearing : {g : ℕ} (s : State.State) (f : ℕ) → s .kind f ≡ State.free →
-    Way g (view s) (with-word (view s) (words-of (upd (s .word) f (λ i. 0))))
-clearing s f e = way-to (wipe (view s) f (ap use-of e) 512)
+pub clearing : {D : Deed → Type 0} (s : State.State) (f : ℕ) → s .kind f ≡ State.free → D (puts f free) →
+    Way D (view s) (with-word (view s) (words-of (upd (s .word) f (λ i. 0))))
+clearing s f e d = way-to (wipe (view s) f (ap use-of e) d 512)
     (same (with-word (view s) (wiped (words-of (s .word)) f 512)) (with-word (view s) (words-of (upd (s .word) f (λ i. 0)))) refl refl
     (λ f. refl) (λ f c. refl) (λ f c j. refl) (λ c. refl) (λ c j v. refl) all)
   where

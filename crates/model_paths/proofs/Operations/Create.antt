@@ -1,7 +1,7 @@
 -- create: a free frame is cleared word by word, and becomes the root of a space.
 use mathlib.Core.Path.{_≡_, refl, sym, ap, _∙_}
 use mathlib.Core.Bool.{true, false, true≢false, not, cond}
-use mathlib.Core.Logic.{inl, inr}
+use mathlib.Core.Logic.{_⊎_, inl, inr}
 use Prim.Native.Nat.{ℕ, _+_, _-_, _%_}
 use native.Mathlib.Omega.{arith}
 use lib.Dec.{eqb, ltb, leb}
@@ -24,11 +24,13 @@ use Rattle.model_paths.proofs.Laws.View.{same, same-space, clearing}
 use Rattle.model_paths.specs.Goes.{Goes, Ended}
 use Rattle.model_paths.proofs.Laws.Reads.{kind-table, kind-page, not-claimed}
 use Rattle.model_paths.proofs.Operations.Frames.{and-false, no-word, above}
+use Rattle.model.specs.Machine.{Create}
+use Rattle.model_moves.specs.Path.{puts, opens, Way}
 
 module _ (s : State.State) (c : Core s) (n : Ended s) where
-  create-path : (g t : ℕ) → s .exists g ≡ false → s .dirty g ≡ false → s .kind t ≡ State.free → Goes g s (with-root s g t)
+  create-path : (g t : ℕ) → s .exists g ≡ false → s .dirty g ≡ false → s .kind t ≡ State.free → Way (λ d. (d ≡ puts t free) ⊎ (d ≡ opens g)) (view s) (view (with-root s g t))
   unfolding with-root zeros
-  create-path g t no-g clean e = onward (clearing s t e) (by (open-space g new premises) refl (way-to stay
+  create-path g t no-g clean e = onward (clearing s t e (inl refl)) (by (open-space g new premises) (inr refl) (way-to stay
       (same _ (view (with-root s g t)) refl refl kinds (λ f d. refl) waits spaces (λ d j v. refl) (λ f i. refl))))
     where
       new : Space
@@ -91,7 +93,7 @@ module _ (s : State.State) (c : Core s) (n : Ended s) where
             (sym (upd-other (s .root) g t d p))
       ]
 
-  pub create-goes : (g : ℕ) (pick : ℕ → ℕ) → Choice s pick → Then (Goes g s) (create s g pick)
+  pub create-goes : (g : ℕ) (pick : ℕ → ℕ) → Choice s pick → Then (Goes s (Create g pick)) (create s g pick)
   unfolding create
   create-goes g pick ch = checked 1 λ e1. checked 2 λ e2. checked 3 λ e3.
       let a = and-true (not (s .exists g)) (not (s .dirty g)) e2 in

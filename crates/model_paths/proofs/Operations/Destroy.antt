@@ -27,6 +27,7 @@ use Rattle.model_paths.proofs.Operations.Unmap.{stale-set}
 use Rattle.model_moves.proofs.Laws.Paths.{stay, by, way-to}
 use Rattle.model_paths.proofs.Operations.GiveTake.{unshared-all}
 use Rattle.model.proofs.Invariant.Core.{low}
+use Rattle.model.specs.Machine.{Destroy}
 
 module _ (s : State.State) (c : Core s) (n : Ended s) (k : Core.Core (view s)) where
   abbrev over : (g : ℕ) → Spaces
@@ -73,11 +74,11 @@ module _ (s : State.State) (c : Core s) (n : Ended s) (k : Core.Core (view s)) w
   }
 
   destroy-path : (g : ℕ) → s .exists g ≡ true → ((f : ℕ) → s .kind f ≡ State.page g → (d : ℕ) → s .shared f d ≡ 0) →
-      Goes g s (without-guest s g)
+      Goes s (Destroy g) (without-guest s g)
   unfolding without-guest drained
   destroy-path g l u =
-      by (end g (λ j v. eqb j whole-slot) whole-slot l (λ j v a. and-true (eqb j whole-slot) (s .dirty g) a .0) (λ v. refl)) refl
-      (by (retire (P g) g (all-of g) (retiring g u)) tt (way-to stay
+      by (end g (λ j v. eqb j whole-slot) whole-slot l (λ j v a. and-true (eqb j whole-slot) (s .dirty g) a .0) (λ v. refl)) (inl refl)
+      (by (retire (P g) g (all-of g) (retiring g u)) (inr refl) (way-to stay
       (same _ (view (without-guest s g)) refl refl (λ f. kinds (s .kind f)) (λ f d. refl) (λ f d j. waits (s .kind f) d j) spaces
       (stale-set s g) (λ f i. refl))))
     where
@@ -128,7 +129,7 @@ module _ (s : State.State) (c : Core s) (n : Ended s) (k : Core.Core (view s)) w
       eqb-true (State.total (s .shared f)) 0 (or-right (State.is-page-of (s .kind f) g) (eqb (State.total (s .shared f)) 0) b
       (ap (λ x. State.is-page-of x g) e ∙ eq-eqb g g refl))
 
-  pub destroy-goes : (g : ℕ) → Then (Goes g s) (destroy s g)
+  pub destroy-goes : (g : ℕ) → Then (Goes s (Destroy g)) (destroy s g)
   unfolding destroy
   destroy-goes g = checked 5 λ e1. checked 13 λ e2.
       then-done (destroy-path g e1 (λ f e. unshared-all s c n f g e

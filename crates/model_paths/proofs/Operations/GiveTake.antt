@@ -21,11 +21,12 @@ use Rattle.model_paths.proofs.Laws.View.{same, clearing}
 use Rattle.model_paths.specs.Goes.{Goes, Ended}
 use Rattle.model_paths.proofs.Laws.Reads.{has-none, none-of}
 use Rattle.model_paths.proofs.Operations.Frames.{waits-set, kind-set, no-word, all-of}
+use Rattle.model.specs.Machine.{Give, Take}
 
 module _ (s : State.State) (c : Core s) where
-  give-path : (f g : ℕ) → s .kind f ≡ State.free → Goes g s (becomes s f (State.page g) (upd (s .word) f zeros) (upd (s .shared) f zeros))
+  give-path : (f g : ℕ) → s .kind f ≡ State.free → Goes s (Give f g) (becomes s f (State.page g) (upd (s .word) f zeros) (upd (s .shared) f zeros))
   unfolding becomes zeros
-  give-path f g e = onward (clearing s f e) (by (hand f g (ap use-of e) zero-words) tt (way-to stay
+  give-path f g e = onward (clearing s f e (inl refl)) (by (hand f g (ap use-of e) zero-words) (inr refl) (way-to stay
       (same after (view (becomes s f (State.page g) (upd (s .word) f zeros) (upd (s .shared) f zeros))) refl refl kinds
       (λ t d. refl) waits (λ d. refl) (λ d j v. refl) (λ t i. refl))))
     where
@@ -49,7 +50,7 @@ module _ (s : State.State) (c : Core s) where
         | inr p ↦ ap (λ x. waits-of x d j) (sym (upd-other (s .kind) f (State.page g) t p))
       ]
 
-  pub give-goes : (f g : ℕ) → Then (Goes g s) (give s f g)
+  pub give-goes : (f g : ℕ) → Then (Goes s (Give f g)) (give s f g)
   unfolding give
   give-goes f g = checked 5 λ e1. checked 4 λ e2. checked 6 λ e3. then-done (give-path f g (free-is (s .kind f) e3))
 
@@ -73,17 +74,17 @@ module _ (s : State.State) (c : Core s) (n : Ended s) where
 
   take-path : (f g : ℕ) (b : Bool) → s .dirty g ≡ b → s .kind f ≡ State.page g → State.total (s .count f) ≡ 0 →
       State.total (s .shared f) ≡ 0 →
-      Goes g s (becomes s f (cond b (State.draining-page g) State.free) (s .word) (s .shared))
+      Goes s (Take f g) (becomes s f (cond b (State.draining-page g) State.free) (s .word) (s .shared))
   unfolding becomes upd
   take-path f g true d k e1 e2 =
       by (retire (λ t. eqb t f) g (all-of g) (retiring f g (all-of g) k e1 e2
-      (λ j v x. rw (eq-eqb g g refl) (and-true (eqb j whole-slot) (s .dirty g) x .0)))) tt (way-to stay
+      (λ j v x. rw (eq-eqb g g refl) (and-true (eqb j whole-slot) (s .dirty g) x .0)))) (inl refl) (way-to stay
       (same _ (view (becomes s f (State.draining-page g) (s .word) (s .shared))) refl refl (kind-set (s .kind) f (State.draining-page g))
       (λ t d. refl) (waits-set (s .kind) f (State.draining-page g)) (λ d. refl) (λ d j v. refl) (λ t i. refl)))
   take-path f g false d k e1 e2 =
       by (retire (λ t. eqb t f) g (λ c j. false)
-      (retiring f g (λ c j. false) k e1 e2 (λ j v x. absurd (true≢false (sym (and-true (eqb j whole-slot) (s .dirty g) x .1) ∙ d))))) tt
-      (by (release (λ t. eqb t f) free-now) tt (way-to stay
+      (retiring f g (λ c j. false) k e1 e2 (λ j v x. absurd (true≢false (sym (and-true (eqb j whole-slot) (s .dirty g) x .1) ∙ d))))) (inl refl)
+      (by (release (λ t. eqb t f) free-now) (inr refl) (way-to stay
       (same _ (view (becomes s f State.free (s .word) (s .shared))) refl refl kinds (λ t d. refl) (waits-set (s .kind) f State.free)
       (λ d. refl) (λ d j v. refl) (λ t i. refl))))
     where
@@ -99,7 +100,7 @@ module _ (s : State.State) (c : Core s) (n : Ended s) where
           go true = refl
           go false = refl
 
-  pub take-goes : (f g : ℕ) → Then (Goes g s) (take s f g)
+  pub take-goes : (f g : ℕ) → Then (Goes s (Take f g)) (take s f g)
   unfolding take
   take-goes f g = checked 5 λ e1. checked 4 λ e2. checked 9 λ e3. checked 13 λ e4.
       let a = and-true (eqb (State.total (s .count f)) 0) (eqb (State.total (s .shared f)) 0) e4 in

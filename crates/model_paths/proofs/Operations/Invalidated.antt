@@ -15,12 +15,13 @@ use Rattle.model.proofs.Invariant.Answer.{Then, then-done, checked}
 use Rattle.model_moves.specs.Spaces.{Spaces, Frame-use, monitor, free, table, emptied, page, draining, exists}
 use Rattle.model_moves.specs.Moves.{release, dissolve, of-space, turned, reported}
 use Rattle.model_moves.proofs.Invariant.Core
-use Rattle.model_moves.specs.Path.{Way}
 use Rattle.model_paths.specs.View.{whole-slot, use-of, waits-of, view}
 use Rattle.model_paths.proofs.Laws.View.{same}
-use Rattle.model_paths.specs.Goes.{Goes, Ended}
+use Rattle.model_paths.specs.Goes.{Does, Goes, Ended}
 use Rattle.model_paths.proofs.Operations.Frames.{and-false}
 use Rattle.model_moves.proofs.Laws.Paths.{stay, by, telling, way-to}
+use Rattle.model.specs.Machine.{Invalidated}
+use Rattle.model_moves.specs.Path.{Way}
 
 abbrev drains-for : State.Frame-kind → ℕ → Bool
 drains-for State.monitor g = false
@@ -133,22 +134,22 @@ module _ (s : State.State) (c : Core s) (n : Ended s) where
       go (State.draining-page h) e = elim (eq? h g) [ inl q ↦ rw (eq-eqb h g q) | inr q ↦ rw (ne-eqb h g q) ]
 
   -- the tables of a guest that is no longer are free too
-  clean-rest : (g : ℕ) → Way g (turned (told g) (λ f. drains-for (s .kind f) g) free) (view (clean s g))
+  clean-rest : (g : ℕ) → Way (Does s (Invalidated g)) (turned (told g) (λ f. drains-for (s .kind f) g) free) (view (clean s g))
   unfolding clean
   clean-rest g = elim (bool? (s .exists g)) [
     | inl l ↦ way-to stay (same _ (view (clean s g)) refl refl (λ f. kinds-there g f l) (λ f d. refl)
         (λ f d j. waits-told g (s .kind f) d j) (λ d. refl) (stale-told g) (λ f i. refl))
     | inr l ↦ by (dissolve g l (λ j v. stale-told g g j v
-        ∙ and-false (eqb j whole-slot) (upd (s .dirty) g false g) (upd-at (s .dirty) g false g refl))) refl
+        ∙ and-false (eqb j whole-slot) (upd (s .dirty) g false g) (upd-at (s .dirty) g false g refl))) (inr (inr refl))
         (way-to stay (same _ (view (clean s g)) refl refl (λ f. kinds-gone g f l) (λ f d. refl) (λ f d j. waits-told g (s .kind f) d j)
         (λ d. refl) (stale-told g) (λ f i. refl)))
   ]
 
-  clean-path : (g : ℕ) → Goes g s (clean s g)
+  clean-path : (g : ℕ) → Goes s (Invalidated g) (clean s g)
   clean-path g =
-      telling g (λ v. true) (λ j. eqb j whole-slot) (record { covered = λ j v a b. refl }) refl
-      (by (release (λ f. drains-for (s .kind f) g) (freed g)) tt (clean-rest g))
+      telling g (λ v. true) (λ j. eqb j whole-slot) (record { covered = λ j v a b. refl }) (inl refl)
+      (by (release (λ f. drains-for (s .kind f) g) (freed g)) (inr (inl (λ f. drains-for (s .kind f) g, refl))) (clean-rest g))
 
-  pub invalidated-goes : (g : ℕ) → Then (Goes g s) (invalidated s g)
+  pub invalidated-goes : (g : ℕ) → Then (Goes s (Invalidated g)) (invalidated s g)
   unfolding invalidated
   invalidated-goes g = checked 1 λ e1. then-done (clean-path g)

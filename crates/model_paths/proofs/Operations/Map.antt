@@ -28,11 +28,13 @@ use Rattle.model_moves.specs.Spaces.{Frame-use, claimed, table, May}
 use Rattle.model_moves.specs.Moves.{claim, link, enter}
 use Rattle.model_moves.proofs.Invariant.Core.{no-next, no-output}
 use Rattle.model_moves.proofs.Invariant.Link.{some-page}
-use Rattle.model_moves.proofs.Laws.Paths.{stay, by, onward, way-to}
+use Rattle.model_moves.proofs.Laws.Paths.{stay, by, onward, way-to, way-more}
 use Rattle.model_paths.specs.View.{whole-slot, use-of, waits-of, words-of, view}
 use Rattle.model_paths.proofs.Laws.View.{same, clearing, words-low, words-store}
 use Rattle.model_paths.proofs.Operations.Frames.{no-word, and-false}
-use Rattle.model_paths.specs.Goes.{Goes}
+use Rattle.model_paths.specs.Goes.{Goes, Builds}
+use Rattle.model.specs.Machine.{Map}
+use Rattle.model_moves.specs.Path.{Deed, enters, Way}
 
 -- a table is made: cleared, claimed, linked
 module _ (s : State.State) (c : Invariant.Core s) (t t′ g h q : ℕ) (live : s .exists g ≡ true) (clean : s .dirty g ≡ false)
@@ -58,14 +60,14 @@ module _ (s : State.State) (c : Invariant.Core s) (t t′ g h q : ℕ) (live : s
   abbrev kinds1 : ℕ → Frame-use
   kinds1 = upd (λ f. use-of (s .kind f)) t′ (claimed g h q)
 
-  table-path : Goes g s (with-table s t (q % 512) t′ g h q)
+  table-path : Way (Builds g) (view s) (view (with-table s t (q % 512) t′ g h q))
   unfolding with-table zeros
-  table-path = onward (clearing s t′ hf)
+  table-path = onward (clearing s t′ hf (inl (t′, refl)))
       (by (claim t′ g h q (record {
         was = ap use-of hf;
         leaf = λ v y r e d. absurd (no-output (nothing (upper h v % 512)) d);
         no-table = λ i y d. no-next (nothing (i % 512)) d;
-      })) refl
+      })) (inr (h, q, inl refl))
       (by (link t t′ g h q (table-entry (s .first) t′) (record {
         live = live;
         place = upd-other (λ f. use-of (s .kind f)) t′ (claimed g h q) t apart ∙ ap use-of ht;
@@ -74,7 +76,7 @@ module _ (s : State.State) (c : Invariant.Core s) (t t′ g h q : ℕ) (live : s
         fresh = λ j v y r e d. and-false (eqb j whole-slot) (s .dirty g) clean;
         whole = λ j a. let v = some-page (suc h) q in true≢false (sym (a (v .0) (v .1)) ∙ and-false (eqb j whole-slot) (s .dirty g) clean);
         reads = descriptor-table (s .first) t′ (Core.in-room s c t′ State.free hf refl) h;
-      })) refl (way-to stay (same _ (view (with-table s t (q % 512) t′ g h q)) refl refl kinds (λ f d. refl) waits (λ d. refl)
+      })) (inr (h, q, inr refl)) (way-to stay (same _ (view (with-table s t (q % 512) t′ g h q)) refl refl kinds (λ f d. refl) waits (λ d. refl)
       (λ d j v. refl) (words-store (upd (s .word) t′ (λ i. 0)) t (q % 512) (table-entry (s .first) t′) (omega arith))))))
     where
       kinds : (f : ℕ) → upd kinds1 t′ (table g h q) f ≡ use-of (upd (s .kind) t′ (State.table g h q) f)
@@ -92,7 +94,7 @@ module _ (s : State.State) (c : Invariant.Core s) (t t′ g h q : ℕ) (live : s
       ]
 
 abbrev Grows : (h : ℕ) (s : State.State) (g t v : ℕ) (pick : ℕ → ℕ) → Type 0
-Grows h s g t v pick = s .exists g ≡ true → s .dirty g ≡ false → Goes g s (grow h s g t v pick .state)
+Grows h s g t v pick = s .exists g ≡ true → s .dirty g ≡ false → Way (Builds g) (view s) (view (grow h s g t v pick .state))
 
 grow-made : (h : ℕ) (s : State.State) (g t v : ℕ) (pick : ℕ → ℕ) → Links h s g t v pick →
     Grows h (linked h s g t v pick) g (pick 0) v (λ j. pick (suc j)) → Grows (suc h) s g t v pick
@@ -112,9 +114,9 @@ module _ (s : State.State) (c : Invariant.Core s) (g v u f r : ℕ) (live : s .e
   may-view (inl a) = inl (ap use-of a)
   may-view (inr a) = inr (a .0, ap use-of (a .1), a .2)
 
-  page-path : Goes g s (with-page s u (v % 512) f r g)
+  page-path : {D : Deed → Type 0} → D (enters g 0 v (s .first + f) r) → Way D (view s) (view (with-page s u (v % 512) f r g))
   unfolding with-page upper inside
-  page-path = by (enter u g 0 v (page-entry (s .first) f r) (s .first + f) r (record {
+  page-path d = by (enter u g 0 v (page-entry (s .first) f r) (s .first + f) r (record {
     live = live;
     place = ap use-of hu;
     empty =
@@ -123,10 +125,10 @@ module _ (s : State.State) (c : Invariant.Core s) (g v u f r : ℕ) (live : s .e
     fresh = λ j w e. and-false (eqb j whole-slot) (s .dirty g) clean;
     reads = descriptor-page (s .first) f r (may-room s c g f r m) hr;
     may = λ w e. (f, refl, may-view m);
-  })) refl (way-to stay (same _ (view (with-page s u (v % 512) f r g)) refl refl (λ f. refl) (λ f d. refl) (λ f d j. refl) (λ d. refl)
+  })) d (way-to stay (same _ (view (with-page s u (v % 512) f r g)) refl refl (λ f. refl) (λ f d. refl) (λ f d j. refl) (λ d. refl)
       (λ d j v. refl) (words-store (s .word) u (v % 512) (page-entry (s .first) f r) (omega arith))))
 
-pub map-goes : (s : State.State) → Invariant.Core s → (f g a r : ℕ) (pick : ℕ → ℕ) → Choice s pick → Then (Goes g s) (map s f g a r pick)
+pub map-goes : (s : State.State) → Invariant.Core s → (f g a r : ℕ) (pick : ℕ → ℕ) → Choice s pick → Then (Goes s (Map f g a r pick)) (map s f g a r pick)
 unfolding map with-mapping
 map-goes s c f g a r pick ch =
     checked 5 λ e1. checked 14 λ e2. checked 7 λ e3. checked 8 λ e4. checked 4 λ e5. checked 9 λ e6. checked 10 λ e7. checked 3 λ e8.
@@ -135,9 +137,9 @@ map-goes s c f g a r pick ch =
     let z = grown-for s c nothing-kept (nothing-ok s) g v pick e1 l ch room in
     let w = grown-empty s c nothing-kept (nothing-ok s) g v pick e1 l ch room (none-is (translate s g v) (not-true (mapped s g v) e7)) in
     let d = not-true (s .dirty g) e2 in
-    then-done (onward (grow-goes 3 s c g (s .root g) v pick ch room (root-serves (s .kind (s .root g)) g v (c .roots g e1) l) e1 d)
+    then-done (onward (way-more (λ d y. inl y) (grow-goes 3 s c g (s .root g) v pick ch room (root-serves (s .kind (s .root g)) g v (c .roots g e1) l) e1 d))
     (page-path (x .state) (z .core) g v (x .last) f r (ap (λ (y : ℕ → Bool). y g) (z .exists) ∙ e1)
-    (ap (λ (y : ℕ → Bool). y g) (z .dirty) ∙ d) (z .last) w (z .may g f r (may-is s g f r e6)) (rights-low r e4)))
+    (ap (λ (y : ℕ → Bool). y g) (z .dirty) ∙ d) (z .last) w (z .may g f r (may-is s g f r e6)) (rights-low r e4) (inr (ap (λ (n : ℕ). enters g 0 v (n + f) r) (z .first)))))
   where
     v : ℕ
     v = a / 4096

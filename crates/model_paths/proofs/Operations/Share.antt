@@ -21,6 +21,8 @@ use Rattle.model_paths.specs.Goes.{Goes, Ended}
 use Rattle.model_paths.proofs.Laws.Reads.{has-none}
 use Rattle.model_paths.proofs.Operations.Frames.{and-false}
 use Rattle.model_moves.proofs.Laws.Paths.{stay, by, way-to}
+use Rattle.model.specs.Machine.{Share, Unshare}
+use Rattle.model_moves.specs.Path.{lends, Way}
 
 -- shared for no less
 pub more-shares : (a b r : ℕ) → a ≤ b → shares a r ≡ true → shares b r ≡ true
@@ -52,9 +54,9 @@ either false y e = inl refl
 
 module _ (s : State.State) (c : Core s) (n : Ended s) where
   lend-path : (g f h how : ℕ) → s .kind f ≡ State.page g → Lend (view s) f h how →
-      Goes g s (becomes s f (State.page g) (s .word) (upd2 (s .shared) f h how))
+      Way (λ d. d ≡ lends f h how) (view s) (view (becomes s f (State.page g) (s .word) (upd2 (s .shared) f h how)))
   unfolding becomes
-  lend-path g f h how k m = by (lend f h how m) tt (way-to stay
+  lend-path g f h how k m = by (lend f h how m) refl (way-to stay
       (same _ (view (becomes s f (State.page g) (s .word) (upd2 (s .shared) f h how))) refl refl (λ t. ap use-of (again t)) (λ t d. refl)
       (λ t d j. ap (λ x. waits-of x d j) (again t)) (λ d. refl) (λ d j v. refl) (λ t i. refl)))
     where
@@ -78,7 +80,7 @@ module _ (s : State.State) (c : Core s) (n : Ended s) where
       go false true p q e = inl (let x = leb-false 2 (s .shared f h) p in omega arith)
       go false false p q e = inl (let x = leb-false 2 (s .shared f h) p in omega arith)
 
-  pub share-goes : (g f h w : ℕ) → Then (Goes g s) (share s g f h w)
+  pub share-goes : (g f h w : ℕ) → Then (Goes s (Share g f h w)) (share s g f h w)
   unfolding share
   share-goes g f h w = checked 5 λ e1. checked 12 λ e2. checked 4 λ e3. checked 9 λ e4. checked 13 λ e5. checked 14 λ e6.
       then-done (lend-path g f h (cond (eqb w 0) 1 2) (page-of-is (s .kind f) g e4)
@@ -101,7 +103,7 @@ module _ (s : State.State) (c : Core s) (n : Ended s) where
             ]);
       }
 
-  pub unshare-goes : (g f h : ℕ) → Then (Goes g s) (unshare s g f h)
+  pub unshare-goes : (g f h : ℕ) → Then (Goes s (Unshare g f h)) (unshare s g f h)
   unfolding unshare
   unshare-goes g f h = checked 5 λ e1. checked 4 λ e2. checked 9 λ e3. checked 13 λ e4. checked 14 λ e5.
       then-done (lend-path g f h 0 (page-of-is (s .kind f) g (and-true (State.is-page-of (s .kind f) g) (ltb 0 (s .shared f h)) e3 .0))

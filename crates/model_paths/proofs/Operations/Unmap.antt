@@ -26,6 +26,8 @@ use Rattle.model_paths.proofs.Laws.View.{same, words-low, words-store}
 use Rattle.model_paths.specs.Goes.{Goes}
 use Rattle.model_paths.proofs.Operations.Frames.{and-yes}
 use Rattle.model_moves.proofs.Laws.Paths.{stay, by, way-to}
+use Rattle.model.specs.Machine.{Unmap}
+use Rattle.model_moves.specs.Path.{clears, Way}
 
 -- the guest becomes dirty: everything is stale, and that includes the page
 pub stale-set : (s : State.State) (g d j v : ℕ) →
@@ -39,7 +41,7 @@ stale-set s g d j v = elim (eq? d g) [
 
 module _ (s : State.State) (c : Core s) where
   unmap-path : (g v t f r : ℕ) → s .exists g ≡ true → s .kind t ≡ State.table g 0 (v / 512) → entry-at s t (v % 512) ≡ to-page f r →
-      Goes g s (without-page s t (v % 512) f g)
+      Way (λ d. d ≡ clears g 0 v) (view s) (view (without-page s t (v % 512) f g))
   unfolding without-page upper
   unmap-path g v t f r l k e = by (clear t g 0 v 0 (s .first + f) r (λ j v. eqb j whole-slot) whole-slot (record {
     live = l;
@@ -57,7 +59,7 @@ module _ (s : State.State) (c : Core s) where
       may : May s g f r
       may = rw e at (c .tables t g 0 (v / 512) k (v % 512) (omega arith))
 
-  pub unmap-goes : (g a : ℕ) → Then (Goes g s) (unmap s g a)
+  pub unmap-goes : (g a : ℕ) → Then (Goes s (Unmap g a)) (unmap s g a)
   unfolding unmap
   unmap-goes g a =
       checked 5 λ e1. checked 7 λ e2. checked 11 λ e3.
