@@ -5,6 +5,7 @@ use mathlib.Core.Bool.{true}
 use mathlib.Core.Logic.{inl, inr, _↔_}
 use mathlib.Core.Option.{some}
 use Prim.Native.Nat.{ℕ, zero, suc}
+use Rattle.memory.specs.Ram.{ram-fits}
 use Rattle.model.specs.Base.{upd, upd2, sum}
 use Rattle.model.specs.State.{free-frames}
 use Rattle.model.specs.Entry.{entry, table-entry, page-entry, rights-of}
@@ -52,11 +53,11 @@ begun k w e = record { n = 16; b = 0x40000000; k = k; word = λ f i. w; accepted
 
 pub one-begins : SetUp (one 0)
 unfolding one
-one-begins = begun 2 1 (unfold begins set-up check in refl)
+one-begins = begun 2 1 (unfold begins set-up check ram-fits in refl)
 
 pub two-begins : SetUp (two 0)
 unfolding two
-two-begins = begun 3 7 (unfold begins set-up check in refl)
+two-begins = begun 3 7 (unfold begins set-up check ram-fits in refl)
 
 -- what corresponds when guest 1 has its frame
 abbrev pub created-frames : Frames

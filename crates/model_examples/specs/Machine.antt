@@ -5,6 +5,7 @@ use mathlib.Core.List.{List, [], _∷_}
 use mathlib.Core.Option.{none, some}
 use Prim.Native.Nat.{ℕ, _+_, _*_, _<_}
 use native.Mathlib.Omega.{arith}
+use Rattle.memory.specs.Ram.{ram-fits}
 use Rattle.model.specs.State.{State, page, draining-page, page-count}
 use Rattle.model.specs.Translate.{translate}
 use Rattle.model.specs.Operations.{Out, refuse, done, check, set-up}
@@ -43,7 +44,7 @@ machine-0 = record { state = begin 2; caches = nothing-kept }
 
 pub set-up-0 : SetUp machine-0
 unfolding machine-0 begin
-set-up-0 = record { n = 16; b = 0x40000000; k = 2; word = λ f i. 1; accepted = unfold set-up check in refl; fresh = refl }
+set-up-0 = record { n = 16; b = 0x40000000; k = 2; word = λ f i. 1; accepted = unfold set-up check ram-fits in refl; fresh = refl }
 
 unfoldable pub machine-11 : Machine
 machine-11 = machine-after machine-0 sharing

@@ -20,3 +20,4 @@ pub mod Levels
 pub mod LevelsKept
 pub mod Monitors
 pub mod Always
+pub mod Beside

@@ -5,10 +5,11 @@ use mathlib.Core.Logic.{_⊎_}
 use Prim.Native.Nat.{ℕ, _+_, _≤_, _/_}
 use Rattle.model.specs.Cache.{Access}
 use Rattle.model.specs.Terms.{lends}
-use Rattle.model_moves.specs.Spaces.{Spaces, Frame-use, monitor, free, claimed, table, emptied, page, draining, exists}
+use Rattle.model_moves.specs.Spaces.{Spaces, Frame-use, monitor, free, claimed, table, emptied, page, draining, exists, Says}
 use Rattle.model_moves.specs.Cache.{Caches, Reach}
 use Rattle.model_moves.specs.Moves.{Move, put, claim, link, enter, clear, unhook, hand, lend, retire, release, open-space, end, dissolve}
 use Rattle.model_moves.specs.Machine.{Machine, Step, moves, reports, looks, stores}
+use Rattle.model.specs.Translate.{upper}
 
 -- at first every frame is the monitor's or free, no space exists, and nothing was kept; RAM holds anything
 pub record Start (m : Machine) : Type 0 where
@@ -82,3 +83,19 @@ Hidden (draining g) = ⊥
 -- all frames beyond RAM are called the monitor's
 abbrev pub Bounded : Machine → Type 0
 Bounded m = (t : ℕ) → m .spaces .size ≤ t → m .spaces .kind t ≡ monitor
+
+-- the moves that change what the tables of space d lead to; a table that is linked and says nothing changes none of it
+abbrev pub Touches : {s s′ : Spaces} → Move s s′ → (d : ℕ) → Type 0
+Touches (put f i x u) d = ⊥
+Touches (claim t c h p m) d = ⊥
+Touches {s} (link t t′ c h q x m) d = (d ≡ c) × ((v f r : ℕ) × (upper h v / 512 ≡ q) × Says s t′ h v f r)
+Touches (enter t c h q x y r m) d = d ≡ c
+Touches (clear t c h q x y r S j m) d = d ≡ c
+Touches (unhook t t′ c h q x S j W m) d = ⊥
+Touches (hand f g e z) d = ⊥
+Touches (lend f c how m) d = ⊥
+Touches (retire P g W m) d = ⊥
+Touches (release P m) d = ⊥
+Touches (open-space c n m) d = ⊥
+Touches (end c S j l g e) d = ⊥
+Touches (dissolve c l e) d = d ≡ c

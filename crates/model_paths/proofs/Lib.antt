@@ -4,3 +4,4 @@ pub mod Operations
 pub mod Ended
 pub mod Ready
 pub mod Stored
+pub mod Given

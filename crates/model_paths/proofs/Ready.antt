@@ -89,7 +89,8 @@ set-up-ready fits n b m w s e = go (fits && ram-fits b n && ltb m n) e
     go : (t : Bool) → check t 4 (done (started n b m w)) ≡ done s → Start (record { spaces = view s; caches = nothing-kept }) × Ready s
     go true e′ =
         let z : started n b m w ≡ s = cc in
-        let y : Start (record { spaces = view s; caches = nothing-kept }) = subst (λ x. Start (record { spaces = view x; caches = nothing-kept })) z
+        let y : Start (record { spaces = view s; caches = nothing-kept }) = subst
+        (λ x. Start (record { spaces = view x; caches = nothing-kept })) z
         (started-start n b m w) in
         (y, record { ledger = set-up-core fits n b m w s e; ended = subst Ended z (started-ended n b m w); spaces = start-good y .core })
     go false e′ = let z : _≡_ {A = ℕ} 0 1 = cc in absurd (omega arith)

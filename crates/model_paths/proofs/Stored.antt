@@ -53,7 +53,9 @@ pub word-ready : (s : State.State) → Ready s → (f i x : ℕ) → i < 512 →
 word-ready s y f i x l u = record {
   ledger = core-reworded s (upd2 (s .word) f i x) beside (y .ledger);
   ended = record { gone = y .ended .gone };
-  spaces = subst Core (word-view s f i x l) (put-holds (view s) f i x u nothing-kept (record { core = y .spaces; kept = nothing-ok (view s) }) .core);
+  spaces =
+      subst Core (word-view s f i x l) (put-holds (view s) f i x u nothing-kept
+      (record { core = y .spaces; kept = nothing-ok (view s) }) .core);
 }
   where
     beside : (t : ℕ) → State.tabled (s .kind t) ≡ true → (n : ℕ) → upd2 (s .word) f i x t n ≡ s .word t n

@@ -6,7 +6,7 @@ use Prim.Native.Nat.{ℕ, suc, _+_, _-_, _≤_, _/_, _%_}
 use native.Mathlib.Omega.{arith}
 use lib.Dec.{eqb, ltb, leb}
 use borrow.Author.Tests.{eqb-true, ltb-true, le-leb, le-ltb}
-use Rattle.model.proofs.Laws.Base.{eq?, and-true, upd-other, upd2-other}
+use Rattle.model.proofs.Laws.Base.{upd-at, eq?, and-true, upd-other, upd2-other}
 use Rattle.model.specs.Operations.{shares}
 use Rattle.model.specs.Cache.{Access, reading, writing, executing, grants}
 use Rattle.model.specs.Terms.{lends}
@@ -22,6 +22,7 @@ use Rattle.model_moves.proofs.Invariant.Entries.{same-frame}
 use Rattle.model_moves.proofs.Invariant.Holds.{Belongs, belongs-at, led-belongs, Good, move-holds, store-frame}
 use Rattle.model_moves.proofs.Invariant.Led.{Added, led-before}
 use Rattle.model_moves.specs.Terms.{Start, Reaches, Allowed, Handed, Host-move, Host-stores, Stores-by, Hidden}
+use Rattle.model_moves.specs.Path.{deed, hands}
 
 lends-is : (how r : ℕ) (w : Access) → shares how r ≡ true → grants r w ≡ true → lends how w ≡ true
 unfolding shares
@@ -95,7 +96,8 @@ both-allowed s c d f w w′ ne (inr (inr a)) (inr (inr b)) = absurd (ne (same-dr
     same-drain {g} {h} e = cc
 
 -- f was free, is all zero, and nothing else has changed that the processor can see
-pub record New-page (s s′ : Spaces) (m : Move s s′) (f : ℕ) : Type 0 where
+pub record New-page (s s′ : Spaces) (m : Move s s′) (f g : ℕ) : Type 0 where
+  pub handed : deed m ≡ hands f g
   pub was : s .kind f ≡ free
   pub zeros : (i : ℕ) → s′ .word f i ≡ 0
   pub first : s′ .first ≡ s .first
@@ -104,7 +106,7 @@ pub record New-page (s s′ : Spaces) (m : Move s s′) (f : ℕ) : Type 0 where
   pub nothing-added : (c v r : ℕ) → Added m c v f r → ⊥
 
 -- only hand makes a page
-pub becomes-page : {s s′ : Spaces} (m : Move s s′) (f g : ℕ) → s′ .kind f ≡ page g → (s .kind f ≡ page g) ⊎ New-page s s′ m f
+pub becomes-page : {s s′ : Spaces} (m : Move s s′) (f g : ℕ) → s′ .kind f ≡ page g → (s .kind f ≡ page g) ⊎ New-page s s′ m f g
 becomes-page (put f i x u) a g e = inl e
 becomes-page {s} (claim t c h p m) a g e = inl (kind-from (s .kind) t (claimed c h p) a (page g) e refl)
 becomes-page {s} (link t t′ c h q x m) a g e = inl (kind-from (s .kind) t′ (table c h q) a (page g) e refl)
@@ -114,6 +116,7 @@ becomes-page {s} (unhook t t′ c h q x S j W m) a g e = inl (kind-from (s .kind
 becomes-page {s} (hand f o e z) a g k = elim
     (eq? a f) [
       | inl p ↦ inr (record {
+        handed = ap (λ (n : ℕ). hands n o) (sym p) ∙ ap (hands a) (same-owner (sym (upd-at (s .kind) f (page o) a p) ∙ k));
         was = ap (s .kind) p ∙ e;
         zeros = λ i. ap (λ (n : ℕ). s .word n i) p ∙ z i;
         first = refl;
@@ -123,6 +126,9 @@ becomes-page {s} (hand f o e z) a g k = elim
       })
       | inr p ↦ inl (sym (upd-other (s .kind) f (page o) a p) ∙ k)
     ]
+  where
+    same-owner : {g h : ℕ} → page g ≡ page h → g ≡ h
+    same-owner {g} {h} e = cc
 becomes-page (lend f c how m) a g e = inl e
 becomes-page {s} (retire P o W m) a g e = inl (set-from P (s .kind) (draining o) a (page g) e refl)
 becomes-page {s} (release P m) a g e = inl (set-from P (s .kind) free a (page g) e refl)
@@ -139,9 +145,9 @@ becomes-page {s} (dissolve c l w) a g e = inl (go (of-space c (s .kind a)) e)
     go false e = e
 
 -- a frame that a move hands out is not reached after it either
-pub unled-after : (s s′ : Spaces) (k : Caches) (m : Move s s′) → Holds s k → (f : ℕ) → New-page s s′ m f → {c v x r : ℕ} →
+pub unled-after : (s s′ : Spaces) (k : Caches) (m : Move s s′) → Holds s k → (f g : ℕ) → New-page s s′ m f g → {c v x r : ℕ} →
     Translation s′ k c v x r → x ≡ s′ .first + f → ⊥
-unled-after s s′ k m y f n {c} {v} {x} {r} t i =
+unled-after s s′ k m y f g n {c} {v} {x} {r} t i =
     let y′ = move-holds k m y in
     elim (traced s′ k (y′ .core) (y′ .kept) t) [
       | inl a ↦ not-belongs s c f r free (n .was) refl refl (belongs-at s k y (kept a) f (i ∙ ap (λ (z : ℕ). z + f) (n .first)))
@@ -216,7 +222,7 @@ handed {z} y (moves s a) f g ny e = elim (becomes-page a f g e) [
   | inr b ↦ record {
     was-free = b .was;
     unreached-before = λ c w x i u. not-allowed (z .spaces) c f w free (b .was) refl refl (reach-allowed y c w x f i (unfold Reach in u));
-    unreached-after = λ c w x i u. unled-after (z .spaces) s (z .caches) a y f b (u .2) i;
+    unreached-after = λ c w x i u. unled-after (z .spaces) s (z .caches) a y f g b (u .2) i;
     all-zero = b .zeros;
   }
 ]

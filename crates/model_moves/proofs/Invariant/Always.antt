@@ -37,7 +37,8 @@ module _ {z : Machine} (g : Good z) where
   reached c w a y = let b = belongs (z .spaces) (z .caches) g (y .2) in
       (b .0, b .1, belongs-allowed (z .spaces) c (b .0) (y .1) w (y .3) (b .2))
 
-  pub unreached : (f : ℕ) → Hidden (z .spaces .kind f) → (c : ℕ) (w : Access) (a : ℕ) → a / 4096 ≡ z .spaces .first + f → Reaches z c w a → ⊥
+  pub unreached : (f : ℕ) → Hidden (z .spaces .kind f) → (c : ℕ) (w : Access) (a : ℕ) → a / 4096 ≡ z .spaces .first + f →
+      Reaches z c w a → ⊥
   unreached f h c w a i y = hidden-not (z .spaces) c f w (z .spaces .kind f) refl h (reach-allowed g c w a f i y)
 
 pub in-ram : {m z : Machine} → Start m → Bounded m → Run m z → (c f : ℕ) (w : Access) → Allowed (z .spaces) c f w → f < m .spaces .size

@@ -110,3 +110,14 @@ module _ (s : Spaces) (k : Caches) (c : Core s) (q : Kept s k) where
     table-gone = λ d h p x a. table-found-gone (l .tables d h p x a);
     page-gone = λ d v x r a. page-found-gone (l .pages d v x r a);
   }
+
+-- what can be found with a part of what was found, could be found
+module _ (s : Spaces) (k k′ : Caches) (l : Looks s k k′) where
+  table-back : {c h p x : ℕ} → Table s k′ c h p x → Table s k c h p x
+  table-back (from-root e i j z) = from-root e i j z
+  table-back (from-kept a) = l .tables _ _ _ _ a
+  table-back (from-word t a e i j) = from-word t (table-back a) e i j
+
+  pub looks-back : {c v x r : ℕ} → Translation s k′ c v x r → Translation s k c v x r
+  looks-back (kept a) = l .pages _ _ _ _ a
+  looks-back (read-off h z t y a e i j q) = read-off h z t y (table-back a) e i j q

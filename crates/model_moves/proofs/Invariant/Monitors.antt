@@ -23,7 +23,8 @@ move-monitor (clear u c h q x y r S j m) t e = e
 move-monitor {s} (unhook u u′ c h q x S j W m) t e = kind-keep (s .kind) u′ (table c h q) (emptied c h q) (m .was) t monitor e refl
 move-monitor {s} (hand f g k z) t e = kind-keep (s .kind) f free (page g) k t monitor e refl
 move-monitor (lend f c how m) t e = e
-move-monitor {s} (retire P g W m) t e = set-keep P (s .kind) (draining g) t monitor e (λ p. clash {x = page g} {y = monitor} (sym (m t p .was) ∙ e) refl)
+move-monitor {s} (retire P g W m) t e =
+    set-keep P (s .kind) (draining g) t monitor e (λ p. clash {x = page g} {y = monitor} (sym (m t p .was) ∙ e) refl)
 move-monitor {s} (release P m) t e = set-keep P (s .kind) free t monitor e (λ p. elim (m t p .0) [
   | inl x ↦ clash {x = draining (x .0)} {y = monitor} (sym (x .1) ∙ e) refl
   | inr x ↦ clash {x = emptied (x .0) (x .1) (x .2)} {y = monitor} (sym (x .3) ∙ e) refl
@@ -47,12 +48,14 @@ move-size (open-space c n m) = refl
 move-size (end c S j l g a) = refl
 move-size (dissolve c l w) = refl
 
-step-monitor : {m z : Machine} → Step m z → (t : ℕ) → m .spaces .kind t ≡ monitor → (z .spaces .kind t ≡ monitor) × (z .spaces .size ≡ m .spaces .size)
+step-monitor : {m z : Machine} → Step m z → (t : ℕ) → m .spaces .kind t ≡ monitor →
+    (z .spaces .kind t ≡ monitor) × (z .spaces .size ≡ m .spaces .size)
 step-monitor (moves s a) t e = (move-monitor a t e, move-size a)
 step-monitor (reports c R D r) t e = (e, refl)
 step-monitor (looks k l) t e = (e, refl)
 step-monitor (stores c f o b l a) t e = (e, refl)
 
-pub monitors-stay : {m z : Machine} → Run m z → (t : ℕ) → m .spaces .kind t ≡ monitor → (z .spaces .kind t ≡ monitor) × (z .spaces .size ≡ m .spaces .size)
+pub monitors-stay : {m z : Machine} → Run m z → (t : ℕ) → m .spaces .kind t ≡ monitor →
+    (z .spaces .kind t ≡ monitor) × (z .spaces .size ≡ m .spaces .size)
 monitors-stay stop t e = (e, refl)
 monitors-stay (then a b) t e = let x = step-monitor a t e in let y = monitors-stay b t (x .0) in (y .0, y .1 ∙ x .1)

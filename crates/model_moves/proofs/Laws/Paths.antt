@@ -50,3 +50,8 @@ pub watched-run : {s z : Spaces} {p : Path s z} {k k″ : Caches} → Watched s 
 watched-run (at-end {k′ = k′} l) = then (looks k′ l) stop
 watched-run (at-move {s′ = s′} {k′ = k′} m l w) = then (looks k′ l) (then (moves s′ m) (watched-run w))
 watched-run (at-report {k′ = k′} c R D r l w) = then (looks k′ l) (then (reports c R D r) (watched-run w))
+
+-- runs one after another
+pub joined : {a b c : Machine} → Run a b → Run b c → Run a c
+joined stop q = q
+joined (then x p) q = then x (joined p q)

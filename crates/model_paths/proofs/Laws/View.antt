@@ -68,7 +68,8 @@ wiped-more w f n t i = elim (eq? t f) [
   ]
 ]
 
-pub wipe : {D : Deed → Type 0} (s : Spaces) (f : ℕ) → s .kind f ≡ free → D (puts f free) → (n : ℕ) → Way D s (with-word s (wiped (s .word) f n))
+pub wipe : {D : Deed → Type 0} (s : Spaces) (f : ℕ) → s .kind f ≡ free → D (puts f free) → (n : ℕ) →
+    Way D s (with-word s (wiped (s .word) f n))
 wipe s f e d zero =
     way-to stay (same s (with-word s (wiped (s .word) f 0)) refl refl (λ f. refl) (λ f c. refl) (λ f c j. refl) (λ c. refl)
     (λ c j v. refl) none)

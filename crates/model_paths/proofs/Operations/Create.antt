@@ -28,7 +28,8 @@ use Rattle.model.specs.Machine.{Create}
 use Rattle.model_moves.specs.Path.{puts, opens, Way}
 
 module _ (s : State.State) (c : Core s) (n : Ended s) where
-  create-path : (g t : ℕ) → s .exists g ≡ false → s .dirty g ≡ false → s .kind t ≡ State.free → Way (λ d. (d ≡ puts t free) ⊎ (d ≡ opens g)) (view s) (view (with-root s g t))
+  create-path : (g t : ℕ) → s .exists g ≡ false → s .dirty g ≡ false → s .kind t ≡ State.free →
+      Way (λ d. (d ≡ puts t free) ⊎ (d ≡ opens g)) (view s) (view (with-root s g t))
   unfolding with-root zeros
   create-path g t no-g clean e = onward (clearing s t e (inl refl)) (by (open-space g new premises) (inr refl) (way-to stay
       (same _ (view (with-root s g t)) refl refl kinds (λ f d. refl) waits spaces (λ d j v. refl) (λ f i. refl))))

@@ -24,7 +24,8 @@ use Rattle.model_paths.proofs.Operations.Frames.{waits-set, kind-set, n
 use Rattle.model.specs.Machine.{Give, Take}
 
 module _ (s : State.State) (c : Core s) where
-  give-path : (f g : ℕ) → s .kind f ≡ State.free → Goes s (Give f g) (becomes s f (State.page g) (upd (s .word) f zeros) (upd (s .shared) f zeros))
+  give-path : (f g : ℕ) → s .kind f ≡ State.free →
+      Goes s (Give f g) (becomes s f (State.page g) (upd (s .word) f zeros) (upd (s .shared) f zeros))
   unfolding becomes zeros
   give-path f g e = onward (clearing s f e (inl refl)) (by (hand f g (ap use-of e) zero-words) (inr refl) (way-to stay
       (same after (view (becomes s f (State.page g) (upd (s .word) f zeros) (upd (s .shared) f zeros))) refl refl kinds
@@ -83,7 +84,8 @@ module _ (s : State.State) (c : Core s) (n : Ended s) where
       (λ t d. refl) (waits-set (s .kind) f (State.draining-page g)) (λ d. refl) (λ d j v. refl) (λ t i. refl)))
   take-path f g false d k e1 e2 =
       by (retire (λ t. eqb t f) g (λ c j. false)
-      (retiring f g (λ c j. false) k e1 e2 (λ j v x. absurd (true≢false (sym (and-true (eqb j whole-slot) (s .dirty g) x .1) ∙ d))))) (inl refl)
+      (retiring f g (λ c j. false) k e1 e2 (λ j v x. absurd (true≢false (sym (and-true (eqb j whole-slot) (s .dirty g) x .1) ∙ d)))))
+      (inl refl)
       (by (release (λ t. eqb t f) free-now) (inr refl) (way-to stay
       (same _ (view (becomes s f State.free (s .word) (s .shared))) refl refl kinds (λ t d. refl) (waits-set (s .kind) f State.free)
       (λ d. refl) (λ d j v. refl) (λ t i. refl))))

@@ -14,7 +14,8 @@ use Rattle.model.proofs.Laws.Entry.{is-empty, descriptor-empty, descriptor-tabl
 use Rattle.model.specs.Translate.{upper, entry-at, translate, mapped, missing, missing-from}
 use Rattle.model.specs.Cache.{invalid, descriptor, inside, nothing-kept}
 use Rattle.model.specs.Changes.{Choice, zeros, with-table, Grown, grow, with-page, with-mapping}
-use Rattle.model.specs.Operations.{map}
+use Rattle.model.specs.Operations.{Out, refuse, done, map}
+use Rattle.model.proofs.Invariant.Tests.{map-clean}
 use Rattle.model.proofs.Invariant.Kinds
 use Rattle.model.specs.Invariant
 use Rattle.model.proofs.Invariant.Core
@@ -23,7 +24,7 @@ use Rattle.model.proofs.Invariant.Way.{root-serves}
 use Rattle.model.proofs.Invariant.Grow.{Links, grow-by, linked}
 use Rattle.model.proofs.Invariant.MapUnmap.{address-low, rights-low, none-is, grown-for, grown-empty}
 use Rattle.model.proofs.Invariant.Holds.{nothing-ok}
-use Rattle.model.proofs.Invariant.Answer.{Then, then-done, checked, may-is}
+use Rattle.model.proofs.Invariant.Answer.{Then, then-refuse, then-done, checked, may-is}
 use Rattle.model_moves.specs.Spaces.{Frame-use, claimed, table, May}
 use Rattle.model_moves.specs.Moves.{claim, link, enter}
 use Rattle.model_moves.proofs.Invariant.Core.{no-next, no-output}
@@ -76,7 +77,8 @@ module _ (s : State.State) (c : Invariant.Core s) (t t′ g h q : ℕ) (live : s
         fresh = λ j v y r e d. and-false (eqb j whole-slot) (s .dirty g) clean;
         whole = λ j a. let v = some-page (suc h) q in true≢false (sym (a (v .0) (v .1)) ∙ and-false (eqb j whole-slot) (s .dirty g) clean);
         reads = descriptor-table (s .first) t′ (Core.in-room s c t′ State.free hf refl) h;
-      })) (inr (h, q, inr refl)) (way-to stay (same _ (view (with-table s t (q % 512) t′ g h q)) refl refl kinds (λ f d. refl) waits (λ d. refl)
+      })) (inr (h, q, inr refl)) (way-to stay (same _ (view (with-table s t (q % 512) t′ g h q)) refl refl kinds (λ f d. refl) waits
+      (λ d. refl)
       (λ d j v. refl) (words-store (upd (s .word) t′ (λ i. 0)) t (q % 512) (table-entry (s .first) t′) (omega arith))))))
     where
       kinds : (f : ℕ) → upd kinds1 t′ (table g h q) f ≡ use-of (upd (s .kind) t′ (State.table g h q) f)
@@ -128,21 +130,34 @@ module _ (s : State.State) (c : Invariant.Core s) (g v u f r : ℕ) (live : s .e
   })) d (way-to stay (same _ (view (with-page s u (v % 512) f r g)) refl refl (λ f. refl) (λ f d. refl) (λ f d j. refl) (λ d. refl)
       (λ d j v. refl) (words-store (s .word) u (v % 512) (page-entry (s .first) f r) (omega arith))))
 
-pub map-goes : (s : State.State) → Invariant.Core s → (f g a r : ℕ) (pick : ℕ → ℕ) → Choice s pick → Then (Goes s (Map f g a r pick)) (map s f g a r pick)
+-- where nothing of g is stale
+map-way : (s : State.State) → Invariant.Core s → (f g a r : ℕ) (pick : ℕ → ℕ) → Choice s pick → s .dirty g ≡ false →
+    Then (Goes s (Map f g a r pick)) (map s f g a r pick)
 unfolding map with-mapping
-map-goes s c f g a r pick ch =
+map-way s c f g a r pick ch d =
     checked 5 λ e1. checked 14 λ e2. checked 7 λ e3. checked 8 λ e4. checked 4 λ e5. checked 9 λ e6. checked 10 λ e7. checked 3 λ e8.
     let l = address-low a e3 in
     let room = leb-true (missing s g v) (State.free-frames s) e8 in
     let z = grown-for s c nothing-kept (nothing-ok s) g v pick e1 l ch room in
     let w = grown-empty s c nothing-kept (nothing-ok s) g v pick e1 l ch room (none-is (translate s g v) (not-true (mapped s g v) e7)) in
-    let d = not-true (s .dirty g) e2 in
-    then-done (onward (way-more (λ d y. inl y) (grow-goes 3 s c g (s .root g) v pick ch room (root-serves (s .kind (s .root g)) g v (c .roots g e1) l) e1 d))
+    then-done (onward (way-more (λ d y. inl y)
+    (grow-goes 3 s c g (s .root g) v pick ch room (root-serves (s .kind (s .root g)) g v (c .roots g e1) l) e1 d))
     (page-path (x .state) (z .core) g v (x .last) f r (ap (λ (y : ℕ → Bool). y g) (z .exists) ∙ e1)
-    (ap (λ (y : ℕ → Bool). y g) (z .dirty) ∙ d) (z .last) w (z .may g f r (may-is s g f r e6)) (rights-low r e4) (inr (ap (λ (n : ℕ). enters g 0 v (n + f) r) (z .first)))))
+    (ap (λ (y : ℕ → Bool). y g) (z .dirty) ∙ d) (z .last) w (z .may g f r (may-is s g f r e6)) (rights-low r e4)
+    (inr (ap (λ (n : ℕ). enters g 0 v (n + f) r) (z .first)))))
   where
     v : ℕ
     v = a / 4096
 
     x : Grown
     x = grow 3 s g (s .root g) v pick
+
+-- 14 has seen to that
+pub map-goes : (s : State.State) → Invariant.Core s → (f g a r : ℕ) (pick : ℕ → ℕ) → Choice s pick →
+    Then (Goes s (Map f g a r pick)) (map s f g a r pick)
+map-goes s c f g a r pick ch = go (map s f g a r pick) (map-clean s f g a r pick) (map-way s c f g a r pick ch)
+  where
+    go : (o : Out) → Then (λ s′. s .dirty g ≡ false) o → (s .dirty g ≡ false → Then (Goes s (Map f g a r pick)) o) →
+        Then (Goes s (Map f g a r pick)) o
+    go (refuse n) q way = then-refuse
+    go (done s′) (then-done q) way = way q
