@@ -10,3 +10,6 @@ pub mod Integrity
 pub mod Monitors
 pub mod OneTranslation
 pub mod OneTable
+pub mod TwoComputers
+pub mod ClosedLoop
+pub mod Group
