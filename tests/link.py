@@ -6,8 +6,7 @@ it, and:
   c       cc and c++: the header is clean C and C++ and has the numbers that are proved, a dropped answer is warned of, the examples
           print what they should, and so does tests/digest.c
   arm     Debian's gcc-aarch64-linux-gnu and qemu-user, on an Arm machine cc: tests/digest.c prints the same over both Arm libraries,
-          and pageledger_arm.h is clean C
-          and tests/stores.c catches each store of theirs to RAM
+          pageledger_arm.h is clean C, and tests/stores.c catches each store of theirs to RAM
   rust    cc and cargo: the examples in Rust, and the crate host/ beside a second implementation of documents 01 and 03
   stores  the same, on x86-64: each store of the library to RAM, caught and looked at (host/tests/stores)
 """

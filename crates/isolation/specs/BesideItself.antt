@@ -15,10 +15,10 @@ use Rattle.model_noninterference.proofs.Invariant.Beside.{itself, match-itself}
 use Rattle.ledger.specs.Layout.{pick-of}
 use Rattle.isolation_runs.specs.Calls.{Call}
 use Rattle.isolation_runs.proofs.Laws.Calls.{defined-is}
-use Rattle.isolation_runs.specs.Slices as S
-use Rattle.isolation_runs.specs.Slices.{Slices, machine, Called, Stored, called, stored, Begun}
-use Rattle.isolation_runs.proofs.Laws.Steps.{Fit, step-fits}
-use Rattle.isolation_runs.proofs.Laws.Runs.{begun-is, begun-fits}
+use Rattle.isolation_runs.specs.Coarse as S
+use Rattle.isolation_runs.specs.Coarse.{Slices, machine, Called, Stored, called, stored, Begun}
+use Rattle.isolation_runs.proofs.Coarse.Steps.{Fit, step-fits}
+use Rattle.isolation_runs.proofs.Coarse.Runs.{begun-is, begun-fits}
 use Rattle.isolation_runs.proofs.Laws.Answered.{done-at-0}
 use Rattle.isolation.specs.TwoComputers.{state, asked, first-calls, second-calls, both-call, first-stores, second-stores, both-store, Runs-apart, stop, then, apart-is}
 

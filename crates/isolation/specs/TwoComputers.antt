@@ -12,13 +12,13 @@ use Rattle.model_noninterference.specs.TwoRunsTerms.{shown, Same-bytes, answere
 use Rattle.model_noninterference.specs.ApartTerms as T
 use Rattle.model_theorems.specs.TwoRunsApart as A
 use Rattle.ledger.specs.Layout.{state-in, state-of, pick-of}
-use Rattle.isolation_runs.proofs.Laws.Slices.{joined}
+use Rattle.isolation_runs.proofs.Coarse.Joined.{joined}
 use Rattle.isolation_runs.specs.Calls.{Call, in-model}
 use Rattle.isolation_runs.proofs.Laws.Calls.{defined-is}
-use Rattle.isolation_runs.specs.Slices.{Slices, machine, Called, Stored, called, stored, Begun}
-use Rattle.isolation_runs.specs.Slices as S
-use Rattle.isolation_runs.proofs.Laws.Steps.{Fit, after-call, after-store, chosen-so}
-use Rattle.isolation_runs.proofs.Laws.Runs.{run-fits, begun-is, begun-fits}
+use Rattle.isolation_runs.specs.Coarse.{Slices, machine, Called, Stored, called, stored, Begun}
+use Rattle.isolation_runs.specs.Coarse as S
+use Rattle.isolation_runs.proofs.Coarse.Steps.{Fit, after-call, after-store, chosen-so}
+use Rattle.isolation_runs.proofs.Coarse.Runs.{run-fits, begun-is, begun-fits}
 use Rattle.isolation_runs.proofs.Laws.Answered.{done-at-0, unchanged-else}
 
 -- the state of the slices, and the model's name for a call on them

@@ -1,7 +1,7 @@
--- Laws, for proofs.
+-- Laws of specs/.
 pub mod Calls
-pub mod Slices
+pub mod Answered
 pub mod StoredByte
 pub mod Steps
 pub mod Runs
-pub mod Answered
+pub mod Possible

@@ -1,4 +1,5 @@
--- The nine operations (document 03, section 3) as a host calls them, with numbers only: the definition that each function's contract cites, and the model's operation.
+-- The nine operations (document 03, section 3) as a host calls them, with numbers only: the definition that each function's contract
+-- cites, and the model's operation.
 -- Both are the same: the code's choice of free frames is the model's argument `pick`.
 use Prim.Native.Nat.{ℕ}
 use Rattle.model.specs.Machine as M

@@ -20,13 +20,12 @@ pub mod Found
 pub mod Holds
 pub mod Allowed
 pub mod Orderly
+pub mod Tests
 pub mod Effects
 pub mod Bytes
 pub mod Reaching
-pub mod Unreached
 pub mod Linked
 pub mod Reclaim
-pub mod NewGuest
 pub mod Frames
 pub mod Descriptors
 pub mod Bridge

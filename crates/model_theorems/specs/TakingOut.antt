@@ -1,17 +1,15 @@
 -- Demand 2: "Taking a page out of a guest is complete."
--- Any run from set-up. After unmap is answered 0 the address does not translate; where nothing is counted of f for g, no address of g translates to f;
--- and where g is not dirty either, nothing that the processor kept leads g to f.
+-- Any run from set-up. After unmap is answered 0 the address does not translate; where nothing is counted of f for g, no address of g
+-- translates to f. (That nothing which the processor kept leads there: crate isolation, TakenOut.)
 use mathlib.Core.Path.{_≡_}
-use mathlib.Core.Bool.{false}
 use mathlib.Core.Option.{none, some}
-use Prim.Native.Nat.{ℕ, _+_, _<_, _/_}
+use Prim.Native.Nat.{ℕ, _<_, _/_}
 use Rattle.model.specs.State.{State, page-count}
 use Rattle.model.specs.Translate.{translate}
 use Rattle.model.specs.Operations.{done, unmap}
-use Rattle.model.specs.Cache.{Access}
-use Rattle.model.specs.Machine.{Machine, SetUp, Run, Reaches}
+use Rattle.model.specs.Machine.{Machine, SetUp, Run}
 use Rattle.model.proofs.Invariant.Holds.{holds}
-use Rattle.model.proofs.Invariant.LinkedAlways.{uncounted, uncounted-kept}
+use Rattle.model.proofs.Invariant.LinkedAlways.{uncounted}
 use Rattle.model.proofs.Invariant.Effects.{unmapped-after}
 
 pub unmapped : {m z : Machine} → SetUp m → Run m z → (g a : ℕ) (s′ : State) → unmap (z .state) a g ≡ done s′ → translate s′ g (a / 4096) ≡ none
@@ -19,6 +17,3 @@ unmapped {z} x r g a s′ e = unmapped-after (z .state) (holds x r .core) g a s�
 
 pub no-address : {m z : Machine} → SetUp m → Run m z → (f g : ℕ) → z .state .count f g ≡ 0 → (v r : ℕ) → v < page-count → translate (z .state) g v ≡ some (f, r) → ⊥
 no-address {z} x r f g = uncounted (z .state) (holds x r .core) f g
-
-pub no-cache : {m z : Machine} → SetUp m → Run m z → (f g : ℕ) → z .state .count f g ≡ 0 → z .state .dirty g ≡ false → (w : Access) (a : ℕ) → a / 4096 ≡ z .state .first + f → Reaches z g w a → ⊥
-no-cache {z} x r f g = uncounted-kept (z .state) (holds x r .core) (z .caches) (holds x r .kept) f g

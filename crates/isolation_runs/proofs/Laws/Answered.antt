@@ -1,4 +1,5 @@
--- Document 03, section 2: every refusal has a number from 1 on. So where a call answers 0 it was done, and where it answers anything else it was refused and nothing has changed.
+-- Document 03, section 2: every refusal has a number from 1 on. So where a call answers 0 it was done, and where it answers anything else
+-- it was refused and nothing has changed.
 use mathlib.Core.Path.{_≡_, sym, ap}
 use mathlib.Core.Bool.{Bool, true, false}
 use mathlib.Core.List.{List}
@@ -23,14 +24,18 @@ pub numbered : (c : Call) (s : State) (pick : ℕ → ℕ) → Numbered (defined
 unfolding create give map unmap share unshare take destroy invalidated
 numbered (Create g) s pick = checked _ 1 _ (omega arith) (checked _ 2 _ (omega arith) (checked _ 3 _ (omega arith) tt))
 numbered (Give f g) s pick = checked _ 5 _ (omega arith) (checked _ 4 _ (omega arith) (checked _ 6 _ (omega arith) tt))
-numbered (Take f g) s pick = checked _ 5 _ (omega arith) (checked _ 4 _ (omega arith) (checked _ 9 _ (omega arith) (checked _ 13 _ (omega arith) tt)))
+numbered (Take f g) s pick =
+    checked _ 5 _ (omega arith) (checked _ 4 _ (omega arith) (checked _ 9 _ (omega arith) (checked _ 13 _ (omega arith) tt)))
 numbered (Map f g a r) s pick =
     checked _ 5 _ (omega arith) (checked _ 14 _ (omega arith) (checked _ 7 _ (omega arith) (checked _ 8 _ (omega arith)
     (checked _ 4 _ (omega arith) (checked _ 9 _ (omega arith) (checked _ 10 _ (omega arith) (checked _ 3 _ (omega arith) tt)))))))
 numbered (Unmap a g) s pick = checked _ 5 _ (omega arith) (checked _ 7 _ (omega arith) (checked _ 11 _ (omega arith) tt))
 numbered (Share g f h w) s pick =
-    checked _ 5 _ (omega arith) (checked _ 12 _ (omega arith) (checked _ 4 _ (omega arith) (checked _ 9 _ (omega arith) (checked _ 13 _ (omega arith) (checked _ 14 _ (omega arith) tt)))))
-numbered (Unshare g f h) s pick = checked _ 5 _ (omega arith) (checked _ 4 _ (omega arith) (checked _ 9 _ (omega arith) (checked _ 13 _ (omega arith) (checked _ 14 _ (omega arith) tt))))
+    checked _ 5 _ (omega arith) (checked _ 12 _ (omega arith)
+    (checked _ 4 _ (omega arith) (checked _ 9 _ (omega arith) (checked _ 13 _ (omega arith) (checked _ 14 _ (omega arith) tt)))))
+numbered (Unshare g f h) s pick =
+    checked _ 5 _ (omega arith) (checked _ 4 _ (omega arith)
+    (checked _ 9 _ (omega arith) (checked _ 13 _ (omega arith) (checked _ 14 _ (omega arith) tt))))
 numbered (Destroy g) s pick = checked _ 5 _ (omega arith) (checked _ 13 _ (omega arith) tt)
 numbered (Invalidated g) s pick = checked _ 1 _ (omega arith) tt
 

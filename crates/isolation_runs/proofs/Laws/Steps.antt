@@ -1,120 +1,203 @@
--- Each step of the two slices is a step of the model, and what the operations count on holds again after it (Fit): so every call's `requires` is met in any sequence.
+-- Each step of the two slices is a run of moves; and what the operations, and their paths, count on holds again after it (Fit).
 use mathlib.Core.Path.{_≡_, refl, sym, ap, _∙_, subst}
-use mathlib.Core.Bool.{Bool, true, false}
+use mathlib.Core.Bool.{true, false, true≢false}
+use mathlib.Core.Logic.{inl, inr}
 use mathlib.Core.List.{List}
-use Prim.Native.Nat.{ℕ, _+_, _*_}
+use Prim.Native.Nat.{ℕ, _+_, _*_, _<_, _/_, _%_}
 use native.Mathlib.Omega.{arith}
 use lib.ListN.{length, length-set, set}
-use Rattle.model.specs.State.{State, is-guest}
-use Rattle.model.specs.Operations.{Out, refuse, done, check, invalidated}
-use Rattle.model.specs.Changes.{clean}
-use Rattle.model.specs.Cache.{Caches, grown}
+use Rattle.memory.specs.Word.{stored-at}
+use Rattle.memory.proofs.Laws.Words.{length-kept}
+use Rattle.model.specs.Base.{upd2}
+use Rattle.model.proofs.Laws.Base.{bool?, upd2-other}
+use Rattle.model.specs.State.{State, tabled, put-byte, reworded}
+use Rattle.model.specs.Operations.{Out, refuse, done}
+use Rattle.model.specs.Cache.{writing}
 use Rattle.model.specs.Machine as M
-use Rattle.model.specs.Invariant.{Core, Kept}
-use Rattle.model.proofs.Invariant.Holds.{Holds, step-holds}
-use Rattle.ledger.specs.Layout.{size-of, state-in, state-of, pick-of}
-use Rattle.ledger.specs.LedgerSound.{Ledger-sound}
+use Rattle.model.proofs.Invariant.Answer.{then-is}
+use Rattle.model_moves.specs.Spaces.{Spaces, store}
+use Rattle.model_moves.specs.Cache.{Caches}
+use Rattle.model_moves.specs.Moves.{untabled, put}
+use Rattle.model_moves.specs.Machine.{Machine, moves, looks, stores}
+use Rattle.model_moves.specs.Machine as G
+use Rattle.model_moves.proofs.Laws.Paths.{watched-run}
+use Rattle.model_moves.proofs.Invariant.Holds.{Good, run-good, store-frame, belongs-untabled}
+use Rattle.model_paths.specs.View.{use-of, view}
+use Rattle.model_paths.specs.Goes.{Ended, Ready}
+use Rattle.model_paths.proofs.Ended.{answer-ended}
+use Rattle.model_paths.proofs.Laws.View.{words-low}
+use Rattle.model_paths.proofs.Stored.{word-view, tabled-so, untabled-so}
+use Rattle.ledger.specs.Layout.{first-of, kind-of, word-of, state-in, state-of, pick-of}
 use Rattle.ledger.specs.Sound.{Sound}
 use Rattle.ledger.proofs.Laws.Sound.{chosen, within}
+use Rattle.ledger.proofs.Laws.Words.{word-stored}
+use Rattle.ledger.proofs.Laws.Beside.{sound-beside}
 use Rattle.monitor.specs.Answers.{Outcome}
-use Rattle.isolation_runs.specs.Calls.{Call, Create, Give, Take, Map, Unmap, Share, Unshare, Destroy, Invalidated, defined, in-model}
+use Rattle.isolation_runs.specs.Calls.{Call, defined, in-model}
+use Rattle.isolation_runs.specs.Slices.{Slices, spaces, machine, Reaches, Called, Byte, Word, Beside, Looked, Step, called, stored, loaded-byte, loaded-word, looked}
 use Rattle.isolation_runs.proofs.Laws.Calls.{defined-is, chooses}
-use Rattle.isolation_runs.specs.Slices.{Slices, machine, kept-after, Looks, Called, Stored, Step, called, stored}
 use Rattle.isolation_runs.proofs.Laws.StoredByte.{state-put}
 
--- what every operation requires; and what is kept leads only where it may
+-- what every operation requires, and what its path needs; and what was kept leads only where it may
 pub record Fit (x : Slices) : Type 0 where
   pub sound : Sound (x .ram) (x .ledger)
-  pub kept : Kept (state-of (x .ram) (x .ledger)) (x .caches)
+  pub ended : Ended (state-of (x .ram) (x .ledger))
+  pub good : Good (machine x)
 
-pub fit-holds : {x : Slices} → Fit x → Holds (machine x)
-fit-holds h = record { core = h .sound .core; kept = h .kept }
+pub fit-ready : {x : Slices} → Fit x → Ready (state-of (x .ram) (x .ledger))
+fit-ready h = record { ledger = h .sound .core; ended = h .ended; spaces = h .good .core }
 
-abbrev of-both : State → Caches → M.Machine
-of-both s k = record { state = s; caches = k }
+abbrev of-both : Spaces → Caches → Machine
+of-both s k = record { spaces = s; caches = k }
 
-machine-is : (y : Slices) (s : State) (k k′ : Caches) → state-of (y .ram) (y .ledger) ≡ s → Looks y k → k ≡ k′ → machine y ≡ of-both s (grown s k′)
-machine-is y s k k′ e look q =
-    ap (of-both (state-of (y .ram) (y .ledger))) look
-    ∙ ap (λ (z : State). of-both z (grown z k)) e
-    ∙ ap (λ (z : Caches). of-both s (grown s z)) q
+-- word i of frame f becomes v, and nothing else changes
+pub record Put (f i v : ℕ) (x y : Slices) : Type 1 where
+  pub low : i < 512
+  pub state : state-of (y .ram) (y .ledger) ≡ reworded (state-of (x .ram) (x .ledger)) (upd2 (word-of (x .ram)) f i v)
+  pub ledger : y .ledger ≡ x .ledger
+  pub long : length (y .ram) ≡ length (x .ram)
+  pub caches : y .caches ≡ x .caches
 
--- what is kept after a call is what the model says, refused or done
-refused-one : (b : Bool) (s : State) (n : ℕ) → check b 1 (done s) ≡ refuse n → n ≡ 1
-unfolding check
-refused-one true s n e = let z : _≡_ {A = ℕ} 0 1 = cc in absurd (omega arith)
-refused-one false s n e = cc
+-- the word that byte o of frame f is in, with another byte
+abbrev pub word-with : Slices → (f o b : ℕ) → ℕ
+word-with x f o b = put-byte (o % 8) (word-of (x .ram) f (o / 8)) b
 
-kept-refused : (c : Call) (s : State) (pick : ℕ → ℕ) (n r : ℕ) (k : Caches) → defined c s pick ≡ refuse n → r ≡ n → kept-after c r k ≡ k
-kept-refused (Create g) s pick n r k e q = refl
-kept-refused (Give f g) s pick n r k e q = refl
-kept-refused (Take f g) s pick n r k e q = refl
-kept-refused (Map f g a w) s pick n r k e q = refl
-kept-refused (Unmap a g) s pick n r k e q = refl
-kept-refused (Share g f h w) s pick n r k e q = refl
-kept-refused (Unshare g f h) s pick n r k e q = refl
-kept-refused (Destroy g) s pick n r k e q = refl
-kept-refused (Invalidated g) s pick n r k e q = ap (λ (z : ℕ). kept-after (Invalidated g) z k) (q ∙ one e)
-  where
-    one : invalidated s g ≡ refuse n → n ≡ 1
-    one e = unfold invalidated in refused-one (is-guest g) (clean s g) n e
+module _ (x y : Slices) (ok : Sound (x .ram) (x .ledger)) where
+  pub byte-put : {f o b : ℕ} → Byte f o b x y → Put f (o / 8) (word-with x f o b) x y
+  unfolding state-in M.stored
+  byte-put {f} {o} {b} a = record {
+    low = let z = a .in-frame in omega arith;
+    state =
+        ap (λ (m : List ℕ). state-of m (y .ledger)) (a .ram-after)
+        ∙ ap (λ (l : List ℕ). state-of (set (x .ram) (f * 4096 + o) b) l) (a .ledger-after)
+        ∙ state-put (x .ram) (x .bytes) b f o (within (x .ram) (x .ledger) ok f (a .in-ram)) (a .in-frame) (x .ledger);
+    ledger = a .ledger-after;
+    long = ap (λ (m : List ℕ). length m) (a .ram-after) ∙ length-set (x .ram) (f * 4096 + o) b;
+    caches = a .caches-after;
+  }
 
-kept-done : (c : Call) (pick : ℕ → ℕ) (r : ℕ) (k : Caches) → r ≡ 0 → kept-after c r k ≡ M.keeps k (in-model c pick)
-unfolding M.keeps
-kept-done (Create g) pick r k q = refl
-kept-done (Give f g) pick r k q = refl
-kept-done (Take f g) pick r k q = refl
-kept-done (Map f g a w) pick r k q = refl
-kept-done (Unmap a g) pick r k q = refl
-kept-done (Share g f h w) pick r k q = refl
-kept-done (Unshare g f h) pick r k q = refl
-kept-done (Destroy g) pick r k q = refl
-kept-done (Invalidated g) pick r k q = ap (λ (z : ℕ). kept-after (Invalidated g) z k) q
-
-module _ (x y : Slices) where
-  pub after-call : (c : Call) (r : ℕ) → Called c r x y → machine y ≡ M.call (machine x) (in-model c (pick-of (x .ledger)))
-  unfolding M.call M.settle
-  after-call c r a =
-      go (defined c (state-of (x .ram) (x .ledger)) (pick-of (x .ledger))) refl (a .answers .outcome)
-      ∙ ap (M.settle (machine x) (M.keeps (x .caches) (in-model c (pick-of (x .ledger))))) (defined-is c (state-of (x .ram) (x .ledger)) (pick-of (x .ledger)))
+  pub word-put : {f i v : ℕ} → Word f i v x y → Put f i v x y
+  unfolding state-in
+  word-put {f} {i} {v} a = record {
+    low = a .in-frame;
+    state =
+        ap (λ (m : List ℕ). state-of m (y .ledger)) (a .ram-after)
+        ∙ ap (λ (l : List ℕ). state-of (stored-at (x .ram) (f * 4096 + i * 8) v) l) (a .ledger-after)
+        ∙ words (word-stored (x .ram) f (within (x .ram) (x .ledger) ok f (a .in-ram)) i v (a .in-frame) (a .is-word));
+    ledger = a .ledger-after;
+    long = ap (λ (m : List ℕ). length m) (a .ram-after) ∙ length-kept (x .ram) (f * 4096 + i * 8) v;
+    caches = a .caches-after;
+  }
     where
-      go : (u : Out) → defined c (state-of (x .ram) (x .ledger)) (pick-of (x .ledger)) ≡ u → Outcome u (x .ram) (x .ledger) r (y .ram) (y .ledger) →
-          machine y ≡ M.settle (machine x) (M.keeps (x .caches) (in-model c (pick-of (x .ledger)))) u
-      go (refuse n) e o =
-          machine-is y (state-of (x .ram) (x .ledger)) (kept-after c r (x .caches)) (x .caches)
-          (ap (λ (m : List ℕ). state-of m (y .ledger)) (o .1) ∙ ap (λ (l : List ℕ). state-of (x .ram) l) (o .2))
-          (a .looks) (kept-refused c (state-of (x .ram) (x .ledger)) (pick-of (x .ledger)) n r (x .caches) e (o .0))
-      go (done s) e o = machine-is y s (kept-after c r (x .caches)) (M.keeps (x .caches) (in-model c (pick-of (x .ledger)))) (o .1) (a .looks) (kept-done c (pick-of (x .ledger)) r (x .caches) (o .0))
+      words : word-of (stored-at (x .ram) (f * 4096 + i * 8) v) ≡ upd2 (word-of (x .ram)) f i v →
+          state-of (stored-at (x .ram) (f * 4096 + i * 8) v) (x .ledger) ≡
+          reworded (state-of (x .ram) (x .ledger)) (upd2 (word-of (x .ram)) f i v)
+      words e = unfold state-in in rw e
 
-  pub after-store : Fit x → (g f o b : ℕ) → Stored g f o b x y → machine y ≡ M.write (machine x) f o b
-  unfolding M.write
-  after-store h g f o b a =
-      machine-is y (M.stored (state-of (x .ram) (x .ledger)) f o b) (x .caches) (x .caches)
-      (ap (λ (m : List ℕ). state-of m (y .ledger)) (a .ram-after) ∙ ap (λ (l : List ℕ). state-of (set (x .ram) (f * 4096 + o) b) l) (a .ledger-after)
-      ∙ state-put (x .ram) (x .bytes) b f o (within (x .ram) (x .ledger) (h .sound) f (a .in-ram)) (a .in-frame) (x .ledger))
-      (a .looks) refl
+  -- a guest's store is not to a table
+  pub beside : (f : ℕ) → untabled (spaces x .kind f) ≡ true → Beside x f
+  unfolding state-in
+  beside f u = elim (bool? (tabled (kind-of (x .ledger) f))) [
+    | inl e ↦ absurd (true≢false (sym u ∙ tabled-so (kind-of (x .ledger) f) e))
+    | inr e ↦ e
+  ]
+
+  untabled-at : (f : ℕ) → Beside x f → untabled (spaces x .kind f) ≡ true
+  unfolding state-in
+  untabled-at f b = untabled-so (kind-of (x .ledger) f) b
+
+  put-machine : {f i v : ℕ} → Put f i v x y → of-both (store (spaces x) f i v) (x .caches) ≡ machine y
+  unfolding state-in
+  put-machine {f} {i} {v} p =
+      ap (λ (s : Spaces). of-both s (x .caches)) (word-view (state-of (x .ram) (x .ledger)) f i v (p .low))
+      ∙ ap (λ (t : State). of-both (view t) (x .caches)) (sym (p .state)) ∙ ap (of-both (spaces y)) (sym (p .caches))
+
+  pub put-run : {f i v : ℕ} → Put f i v x y → Beside x f → G.Run (machine x) (machine y)
+  put-run {f} {i} {v} p b =
+      G.then (moves (store (spaces x) f i v) (put f i v (untabled-at f b)))
+      (subst (λ (z : Machine). G.Run z (machine y)) (sym (put-machine p)) G.stop)
+
+  pub stored-run : (g : ℕ) {f o b : ℕ} → Byte f o b x y → Reaches x g writing ((first-of (x .ledger) + f) * 4096 + o) →
+      G.Run (machine x) (machine y)
+  unfolding state-in
+  stored-run g {f} {o} {b} a r = G.then (stores g f o b (a .in-frame) r) (subst (λ (z : Machine). G.Run z (machine y)) (sym there) G.stop)
+    where
+      there : of-both (G.byte-stored (spaces x) f o b) (x .caches) ≡ machine y
+      there =
+          ap (λ (n : ℕ). of-both (store (spaces x) f (o / 8) (put-byte (o % 8) n b)) (x .caches))
+          (words-low (word-of (x .ram)) f (o / 8) (let z = a .in-frame in omega arith))
+          ∙ put-machine (byte-put a)
+
+  pub put-sound : {f i v : ℕ} → Put f i v x y → Beside x f → Sound (y .ram) (y .ledger)
+  put-sound {f} {i} {v} p b =
+      subst (λ (l : List ℕ). Sound (y .ram) l) (sym (p .ledger)) (sound-beside (x .ram) (x .ledger) ok (y .ram) (p .long) same)
+    where
+      same : (t : ℕ) → tabled (kind-of (x .ledger) t) ≡ true → (n : ℕ) → word-of (y .ram) t n ≡ word-of (x .ram) t n
+      same t e n = words ∙ upd2-other (word-of (x .ram)) f i v t n
+          (λ (q : t ≡ f) _. true≢false (sym e ∙ ap (λ (a : ℕ). tabled (kind-of (x .ledger) a)) q ∙ b))
+        where
+          words : word-of (y .ram) t n ≡ upd2 (word-of (x .ram)) f i v t n
+          words = unfold state-in in ap (λ (s : State). s .word t n) (p .state)
+
+ended-same : (x y : Slices) → y .ledger ≡ x .ledger → Ended (state-of (x .ram) (x .ledger)) → Ended (state-of (y .ram) (y .ledger))
+ended-same x y e n = subst (λ (l : List ℕ). Ended (state-of (y .ram) l)) (sym e) (record { gone = unfold state-in in n .gone })
 
 -- the code takes free frames as the model asks
-pub chosen-so : {x : Slices} → Fit x → (c : Call) → M.Chooses (state-of (x .ram) (x .ledger)) (in-model c (pick-of (x .ledger)))
-chosen-so {x} h c = chooses c (state-of (x .ram) (x .ledger)) (pick-of (x .ledger)) (chosen (x .ledger) (h .sound .ledger-sound) (x .ram))
+pub chosen-so : (x : Slices) → Sound (x .ram) (x .ledger) → (c : Call) →
+    M.Chooses (state-of (x .ram) (x .ledger)) (in-model c (pick-of (x .ledger)))
+chosen-so x ok c = chooses c (state-of (x .ram) (x .ledger)) (pick-of (x .ledger)) (chosen (x .ledger) (ok .ledger-sound) (x .ram))
 
-pub step-is-step : {x y : Slices} → Fit x → Step x y → M.Step (machine x) (machine y)
+called-ended : {x y : Slices} → Fit x → (c : Call) (r : ℕ) → Called c r x y → Ended (state-of (y .ram) (y .ledger))
+called-ended {x} {y} h c r a = go (defined c (state-of (x .ram) (x .ledger)) (pick-of (x .ledger))) refl (a .answers .outcome)
+  where
+    s : State
+    s = state-of (x .ram) (x .ledger)
+
+    go : (u : Out) → defined c (state-of (x .ram) (x .ledger)) (pick-of (x .ledger)) ≡ u →
+        Outcome u (x .ram) (x .ledger) r (y .ram) (y .ledger) →
+        Ended (state-of (y .ram) (y .ledger))
+    go (refuse n) e o = ended-same x y (o .2) (h .ended)
+    go (done s′) e o = subst Ended (sym (o .1)) (then-is (M.answer (state-of (x .ram) (x .ledger)) (in-model c (pick-of (x .ledger)))) s′
+        (answer-ended (state-of (x .ram) (x .ledger)) (h .sound .core) (h .ended) (in-model c (pick-of (x .ledger)))
+        (chosen-so x (h .sound) c))
+        (sym (defined-is c (state-of (x .ram) (x .ledger)) (pick-of (x .ledger))) ∙ e))
+
+same-machine : (x y : Slices) → y .ram ≡ x .ram → y .ledger ≡ x .ledger → of-both (spaces x) (y .caches) ≡ machine y
+same-machine x y e l = ap (λ (m : List ℕ). of-both (view (state-of m (x .ledger))) (y .caches)) (sym e)
+    ∙ ap (λ (n : List ℕ). of-both (view (state-of (y .ram) n)) (y .caches)) (sym l)
+
+pub step-run : {x y : Slices} → Fit x → Step x y → G.Run (machine x) (machine y)
+step-run h (called c r a) = watched-run (a .watched)
+step-run {x} {y} h (stored g f o b a r) = stored-run x y (h .sound) g a r
+step-run {x} {y} h (loaded-byte f o b a s) = put-run x y (h .sound) (byte-put x y (h .sound) a) s
+step-run {x} {y} h (loaded-word f i v a s) = put-run x y (h .sound) (word-put x y (h .sound) a) s
+step-run {x} {y} h (looked a) =
+    G.then (looks (y .caches) (a .looks)) (subst (λ (z : Machine). G.Run z (machine y))
+    (sym (same-machine x y (a .ram-after) (a .ledger-after))) G.stop)
+
+-- where a guest stores there is no table
+store-beside : {x y : Slices} → Fit x → (g f o b : ℕ) → Byte f o b x y → Reaches x g writing ((first-of (x .ledger) + f) * 4096 + o) →
+    Beside x f
 unfolding state-in
-step-is-step {x} {y} h (called c r a) =
-    subst (λ (z : M.Machine). M.Step (machine x) z) (sym (after-call x y c r a)) (M.calls (in-model c (pick-of (x .ledger))) (chosen-so h c))
-step-is-step {x} {y} h (stored g f o b a) =
-    subst (λ (z : M.Machine). M.Step (machine x) z) (sym (after-store x y h g f o b a)) (M.stores g f o b (a .lives) (a .in-ram) (a .in-frame) (a .is-byte) (a .reaches))
+store-beside {x} {y} h g f o b a r =
+    let w = store-frame (machine x) (h .good) g f o (a .in-frame) r in
+    beside x y (h .sound) f (belongs-untabled (spaces x) g f (w .0) (w .1))
 
 pub step-fits : {x y : Slices} → Fit x → Step x y → Fit y
-step-fits {x} {y} h s = record { sound = go s (after .core); kept = after .kept }
+step-fits {x} {y} h s = record { sound = sound s; ended = ended s; good = run-good (step-run h s) (h .good) }
   where
-    after : Holds (machine y)
-    after = step-holds (step-is-step h s) (fit-holds h)
+    sound : Step x y → Sound (y .ram) (y .ledger)
+    sound (called c r a) = a .answers .sound
+    sound (stored g f o b a r) = put-sound x y (h .sound) (byte-put x y (h .sound) a) (store-beside h g f o b a r)
+    sound (loaded-byte f o b a s) = put-sound x y (h .sound) (byte-put x y (h .sound) a) s
+    sound (loaded-word f i v a s) = put-sound x y (h .sound) (word-put x y (h .sound) a) s
+    sound (looked a) =
+        subst (λ (m : List ℕ). Sound m (y .ledger)) (sym (a .ram-after))
+        (subst (λ (l : List ℕ). Sound (x .ram) l) (sym (a .ledger-after)) (h .sound))
 
-    go : Step x y → Core (state-of (y .ram) (y .ledger)) → Sound (y .ram) (y .ledger)
-    go (called c r a) core = a .answers .sound
-    go (stored g f o b a) core = record {
-      ledger-sound = subst (λ (l : List ℕ). Ledger-sound l) (sym (a .ledger-after)) (h .sound .ledger-sound);
-      ram-fits = ap (λ (m : List ℕ). length m) (a .ram-after) ∙ length-set (x .ram) (f * 4096 + o) b ∙ h .sound .ram-fits ∙ ap (λ (l : List ℕ). size-of l * 4096) (sym (a .ledger-after));
-      core = core;
-    }
+    ended : Step x y → Ended (state-of (y .ram) (y .ledger))
+    ended (called c r a) = called-ended h c r a
+    ended (stored g f o b a r) = ended-same x y (a .ledger-after) (h .ended)
+    ended (loaded-byte f o b a s) = ended-same x y (a .ledger-after) (h .ended)
+    ended (loaded-word f i v a s) = ended-same x y (a .ledger-after) (h .ended)
+    ended (looked a) = ended-same x y (a .ledger-after) (h .ended)

@@ -1,4 +1,5 @@
--- One byte of RAM is set: the state of the slices is then the model's after a store of that byte. One word has another byte, and every other word is as before.
+-- One byte of RAM is set: the state of the slices is then the model's after a store of that byte. One word has another byte, and every
+-- other word is as before.
 use mathlib.Core.Path.{_≡_, ap, _∙_, fun-ext}
 use mathlib.Core.Logic.{_⊎_, inl, inr}
 use mathlib.Core.List.{List}
@@ -10,9 +11,8 @@ use borrow.Author.Tests.{lt-ltb, le-ltb}
 use Rattle.memory.specs.Word.{word-at}
 use Rattle.memory.proofs.Laws.Bytes.{bytes-from, word-bytes, bytes-agree}
 use Rattle.memory.proofs.Laws.Words.{word-agree}
-use Rattle.model.proofs.Laws.Base.{eq?, lt?}
+use Rattle.model.proofs.Laws.Base.{eq?, lt?, upd2-at, upd2-other}
 use Rattle.model.specs.Base.{upd2}
-use Rattle.model.proofs.Laws.Base.{upd2-at, upd2-other}
 use Rattle.model.specs.State.{put-byte}
 use Rattle.model.specs.Machine.{stored}
 use Rattle.ledger.specs.Layout.{word-of, state-in, state-of}
@@ -36,11 +36,14 @@ module _ (m : List ℕ) (low : (i : ℕ) → getD m i 0 < 256) (x : ℕ) where
       only a e = unfold put-byte in omega arith
   bytes-put zero at (suc k) l room = absurd (omega arith)
   bytes-put (suc n) at zero l room =
-      let here : getD (set m (at + 0) x) at 0 ≡ x = ap (λ (i : ℕ). getD (set m i x) at 0) (omega arith) ∙ getD-set-same m at x 0 (omega arith) in
-      let rest = bytes-agree n (set m (at + 0) x) m (at + 1) (at + 1) (λ i p. getD-set-other m (at + 0) (at + 1 + i) x 0 (λ (e : at + 1 + i ≡ at + 0). omega arith)) in
+      let here : getD (set m (at + 0) x) at 0 ≡ x = ap (λ (i : ℕ). getD (set m i x) at 0) (omega arith)
+      ∙ getD-set-same m at x 0 (omega arith) in
+      let rest = bytes-agree n (set m (at + 0) x) m (at + 1) (at + 1)
+      (λ i p. getD-set-other m (at + 0) (at + 1 + i) x 0 (λ (e : at + 1 + i ≡ at + 0). omega arith)) in
       rw (here, rest) (put-first (getD m at 0) (bytes-from n m (at + 1)) x (low at))
   bytes-put (suc n) at (suc k) l room =
-      let here : getD (set m (at + suc k) x) at 0 ≡ getD m at 0 = getD-set-other m (at + suc k) at x 0 (λ (e : at ≡ at + suc k). omega arith) in
+      let here : getD (set m (at + suc k) x) at 0 ≡
+      getD m at 0 = getD-set-other m (at + suc k) at x 0 (λ (e : at ≡ at + suc k). omega arith) in
       let rest : bytes-from n (set m (at + suc k) x) (at + 1) ≡ put-byte k (bytes-from n m (at + 1)) x =
       ap (λ (i : ℕ). bytes-from n (set m i x) (at + 1)) (omega arith) ∙ bytes-put n (at + 1) k (omega arith) (omega arith) in
       rw (here, rest) (put-next k (getD m at 0) (bytes-from n m (at + 1)) x (low at))
@@ -64,16 +67,20 @@ module _ (m : List ℕ) (low : (i : ℕ) → getD m i 0 < 256) (x : ℕ) where
         outside : (a b : ℕ) → 512 ≤ b → word-of (set m (f * 4096 + o) x) a b ≡ upd2 (word-of m) f (o / 8) v a b
         outside a b l = rw (upd2-other (word-of m) f (o / 8) v a b (λ p (q : b ≡ o / 8). omega arith), le-ltb b 512 l)
 
-        away : (a b : ℕ) → b < 512 → (a ≡ f → b ≡ o / 8 → ⊥) → word-at (set m (f * 4096 + o) x) (a * 4096 + b * 8) ≡ word-at m (a * 4096 + b * 8)
+        away : (a b : ℕ) → b < 512 → (a ≡ f → b ≡ o / 8 → ⊥) →
+            word-at (set m (f * 4096 + o) x) (a * 4096 + b * 8) ≡ word-at m (a * 4096 + b * 8)
         away a b l ne = word-left (f * 4096 + o) (a * 4096 + b * 8) (λ p q. ne (omega arith) (omega arith))
 
         here : word-at (set m (f * 4096 + o) x) (f * 4096 + o / 8 * 8) ≡ put-byte (o % 8) (word-at m (f * 4096 + o / 8 * 8)) x
         here =
             let at : f * 4096 + o ≡ f * 4096 + o / 8 * 8 + o % 8 = omega arith in
-            ap (λ (i : ℕ). word-at (set m i x) (f * 4096 + o / 8 * 8)) at ∙ word-put (f * 4096 + o / 8 * 8) (o % 8) (omega arith) (omega arith)
+            ap (λ (i : ℕ). word-at (set m i x) (f * 4096 + o / 8 * 8)) at
+            ∙ word-put (f * 4096 + o / 8 * 8) (o % 8) (omega arith) (omega arith)
 
-        within : (a b : ℕ) → b < 512 → (a ≡ f) ⊎ (a ≡ f → ⊥) → (b ≡ o / 8) ⊎ (b ≡ o / 8 → ⊥) → word-of (set m (f * 4096 + o) x) a b ≡ upd2 (word-of m) f (o / 8) v a b
-        within a b l (inl p) (inl q) = rw (upd2-at (word-of m) f (o / 8) v a b p q, lt-ltb b 512 l, p, q, lt-ltb (o / 8) 512 (omega arith)) here
+        within : (a b : ℕ) → b < 512 → (a ≡ f) ⊎ (a ≡ f → ⊥) → (b ≡ o / 8) ⊎ (b ≡ o / 8 → ⊥) →
+            word-of (set m (f * 4096 + o) x) a b ≡ upd2 (word-of m) f (o / 8) v a b
+        within a b l (inl p) (inl q) =
+            rw (upd2-at (word-of m) f (o / 8) v a b p q, lt-ltb b 512 l, p, q, lt-ltb (o / 8) 512 (omega arith)) here
         within a b l (inl p) (inr q) = rw (upd2-other (word-of m) f (o / 8) v a b (λ _ y. q y), lt-ltb b 512 l) (away a b l (λ _ y. q y))
         within a b l (inr p) q = rw (upd2-other (word-of m) f (o / 8) v a b (λ y _. p y), lt-ltb b 512 l) (away a b l (λ y _. p y))
 

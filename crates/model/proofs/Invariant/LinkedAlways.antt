@@ -1,11 +1,11 @@
 -- Linked holds after any run from set-up; and what is counted for a guest, the guest's tables lead to at some address.
-use mathlib.Core.Path.{_≡_, refl, sym, ap, _∙_}
+use mathlib.Core.Path.{_≡_, refl, sym, _∙_}
 use mathlib.Core.Bool.{Bool, true, false, _&&_, cond}
 use mathlib.Core.Logic.{inl, inr}
 use mathlib.Core.Option.{none, some}
 use Prim.Native.Nat.{ℕ, zero, suc, _+_, _*_, _<_, _/_, _%_}
 use native.Mathlib.Omega.{arith}
-use lib.Dec.{eqb, ltb, leb}
+use lib.Dec.{eqb, ltb}
 use borrow.Author.Tests.{eqb-true}
 use Rattle.memory.specs.Ram.{ram-fits}
 use Rattle.model.proofs.Laws.Base.{lt?, and-true}
@@ -14,13 +14,12 @@ use Rattle.model.specs.State.{State, Frame-kind, monitor, free, table, d
 use Rattle.model.specs.Entry.{Entry, empty, to-table, to-page, other}
 use Rattle.model.specs.Translate.{entry-at, leaf, translate}
 use Rattle.model.specs.Operations.{done, check, started, set-up}
-use Rattle.model.specs.Cache.{Access, writing, Caches, Reach}
+use Rattle.model.specs.Cache.{writing}
 use Rattle.model.specs.Machine.{Machine, Run, SetUp}
-use Rattle.model.specs.Invariant.{is-last, leads, hit, places, Core, Kept}
+use Rattle.model.specs.Invariant.{is-last, leads, hit, places, Core}
 use Rattle.model.proofs.Invariant.Core.{low}
 use Rattle.model.proofs.Invariant.Counts.{places-zero}
 use Rattle.model.proofs.Invariant.Way.{leaf-kind, leaf-there, translate-from, translate-at}
-use Rattle.model.proofs.Invariant.Found.{page-found-now}
 use Rattle.model.proofs.Invariant.Holds.{Stores-keep, run-keeps, set-up-holds, neither}
 use Rattle.model.proofs.Invariant.Allowed.{frame-allowed, not-allowed}
 use Rattle.model.proofs.Invariant.Linked.{Linked, answer-linked, stored-linked, comes-there}
@@ -46,16 +45,6 @@ module _ (s : State) (c : Core s) where
       let w = translate-from s g v f r e in
       let k = leaf-kind s c g v (w .0) l (w .1) in
       places-zero s f g (sym (c .counts f g) ∙ z) (w .0) (v / 512) (v % 512) r (low s c (w .0) (table g 0 (v / 512)) k refl) (omega arith) k (w .2)
-
-  pub uncounted-kept : (k : Caches) → Kept s k → (f g : ℕ) → s .count f g ≡ 0 → s .dirty g ≡ false → (w : Access) (a : ℕ) → a / 4096 ≡ s .first + f → Reach s k g w a → ⊥
-  unfolding Reach
-  uncounted-kept k q f g z d w a e x =
-      let b = page-found-now s k c q g d (x .2) in
-      let b1 = b .1 in
-      let m = b .2 in
-      let v = x .0 in
-      let f= : b .0 ≡ f = omega arith in
-      places-zero s f g (sym (c .counts f g) ∙ z) (m .0) (v / 512) (v % 512) (x .1) (low s c (m .0) (table g 0 (v / 512)) (m .1) refl) (omega arith) (m .1) (m .2 ∙ ap (λ (y : ℕ). to-page y (x .1)) f=)
 
 -- a sum that is not 0 has a part that is not
 sum-some : (n : ℕ) (f : ℕ → ℕ) → 0 < sum n f → (k : ℕ) × (k < n) × (0 < f k)

@@ -1,2 +1,0 @@
--- Laws, for proofs.
-pub mod Invariant
