@@ -6,7 +6,7 @@ use Prim.Native.Nat.{ℕ}
 use Rattle.model_moves.specs.Spaces.{page}
 use Rattle.model_moves.specs.Machine.{Machine, Step, Run}
 use Rattle.model_moves.specs.Terms.{Start, Handed}
-use Rattle.model_moves.proofs.Invariant.Allowed.{handed}
+use Rattle.model_moves.proofs.Invariant.Hands.{handed}
 use Rattle.model_moves.proofs.Invariant.Always.{good}
 
 pub changes-hands : {m z z′ : Machine} → Start m → Run m z → Step z z′ → (f g : ℕ) →

@@ -16,7 +16,9 @@ pub mod Report
 pub mod Holds
 pub mod Led
 pub mod Allowed
+pub mod Hands
 pub mod Levels
+pub mod LevelsMoves
 pub mod LevelsKept
 pub mod Monitors
 pub mod Always

@@ -17,7 +17,7 @@ use Rattle.model_moves.proofs.Invariant.Core.{clash}
 use Rattle.model_moves.proofs.Invariant.Found.{looks-kept, looks-back}
 use Rattle.model_moves.proofs.Invariant.Ledger.{Holds}
 use Rattle.model_moves.proofs.Invariant.Holds.{move-holds}
-use Rattle.model_moves.proofs.Invariant.Allowed.{New-page, becomes-page, unled-after}
+use Rattle.model_moves.proofs.Invariant.Hands.{New-page, becomes-page, unled-after}
 use Rattle.model_paths.specs.Goes.{Builds, Does}
 
 -- the two deeds of give

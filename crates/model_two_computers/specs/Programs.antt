@@ -1,4 +1,4 @@
--- Words for ClosedLoop: a program, what it learns, and two computers on which it runs.
+-- Words for the loop closed: a guest is a program, which acts by what it has learnt; and two computers on which it runs.
 use mathlib.Core.Path.{_≡_}
 use mathlib.Core.Bool.{true}
 use mathlib.Core.Logic.{_⊎_}

@@ -1,6 +1,6 @@
--- Words for the theorem on two computers: everything that space c reads, its guest's own pages and pages that are lent to it.
--- Frames may have other numbers on the other computer: a correspondence R pairs a frame of the first with a frame of the second. c itself
--- never sees these numbers.
+-- Words for "What one guest can read depends on nothing another does" (demand 3): all that space c reads, pages of its guest and pages that
+-- are lent to it, on two computers. Frames may have other numbers on the other computer: a correspondence R pairs a frame of the first with
+-- one of the second. c itself never sees these numbers.
 use mathlib.Core.Path.{_≡_}
 use mathlib.Core.Bool.{Bool, true, false}
 use mathlib.Core.Logic.{_⊎_}
@@ -33,9 +33,8 @@ pub record Repaired (c : ℕ) (R R′ : Frames) (y z : Machine) : Type 0 where
   pub new : (f f′ : ℕ) → R′ f f′ → R f f′ ⊎ Same-words y z f f′
   pub stays : (f f′ : ℕ) → R f f′ → Allowed (y .spaces) c f reading → Allowed (z .spaces) c f′ reading → R′ f f′
 
--- A step on one computer alone is any but these: a translation is added to or taken out of the tables of c (enter, link, clear,
--- dissolve), a report for c.
--- The processor looks as it likes, also for c.
+-- A step on one computer alone is any but these: a translation is added to or taken out of the tables of c (enter, clear, dissolve, the
+-- link of a table that says something), or a report for c. The processor looks as it likes, also for c.
 abbrev pub Aside : {m z : Machine} → Step m z → (c : ℕ) → Type 0
 Aside (moves s a) c = Touches a c → ⊥
 Aside (reports d R D r) c = c ≡ d → ⊥

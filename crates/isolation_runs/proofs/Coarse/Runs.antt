@@ -1,21 +1,14 @@
 -- Any sequence of calls of the monitor's functions on the two slices, with guests' stores of bytes between them, from a set-up that was answered with 0, is a run of the model from set-up.
 -- So every theorem of the page Isolation about one run of the model holds of the two slices; and what each function requires is met before every call.
-use mathlib.Core.Path.{_≡_, refl, sym, ap}
-use mathlib.Core.Bool.{Bool, true, false, _&&_}
-use mathlib.Core.List.{List}
-use Prim.Native.Nat.{ℕ, _+_, _*_, _%_}
-use native.Mathlib.Omega.{arith}
-use lib.Dec.{eqb, ltb, leb}
-use Rattle.memory.specs.Ram.{ram-fits}
-use Rattle.model.specs.Operations.{done, check, set-up, started}
+use mathlib.Core.Path.{refl}
 use Rattle.model.specs.Machine as M
 use Rattle.model.proofs.Invariant.Holds.{nothing-ok}
 use Rattle.ledger.specs.Layout.{word-of, state-of}
 use Rattle.ledger.specs.Sound.{Sound}
-use Rattle.monitor.specs.Answers.{Outcome}
 use Rattle.monitor.specs.SetUp.{slices-fit}
 use Rattle.isolation_runs.specs.Coarse.{Slices, machine, Run, stop, then, Begun}
 use Rattle.isolation_runs.proofs.Coarse.Steps.{Fit, step-is-step, step-fits}
+use Rattle.isolation_runs.proofs.Laws.Runs.{accepted}
 
 pub run-is-run : {x y : Slices} → Fit x → Run x y → M.Run (machine x) (machine y)
 run-is-run h stop = M.stop
@@ -24,16 +17,6 @@ run-is-run h (then s r) = M.then (step-is-step h s) (run-is-run (step-fits h s) 
 pub run-fits : {x y : Slices} → Fit x → Run x y → Fit y
 run-fits h stop = h
 run-fits h (then s r) = run-fits (step-fits h s) r
-
--- set-up refuses with 4, and never with 0
-accepted : (t : Bool) (b n k : ℕ) (m l l′ : List ℕ) → Outcome (set-up t b n k (word-of m)) m l 0 m l′ → set-up true b n k (word-of m) ≡ done (state-of m l′)
-unfolding set-up check
-accepted true b n k m l l′ o = go (true && ram-fits b n && ltb k n) o
-  where
-    go : (u : Bool) → Outcome (check u 4 (done (started b n k (word-of m)))) m l 0 m l′ → check u 4 (done (started b n k (word-of m))) ≡ done (state-of m l′)
-    go true o = ap done (sym (o .1))
-    go false o = let z = o .0 in absurd (omega arith)
-accepted false b n k m l l′ o = let z = o .0 in absurd (omega arith)
 
 pub begun-is : {x : Slices} → Begun x → M.SetUp (machine x)
 begun-is {x} h = record {

@@ -26,7 +26,7 @@ use Rattle.isolation_runs.specs.Slices.{Slices, spaces, machine, Run, st
 use Rattle.isolation_runs.proofs.Laws.Steps.{Fit, fit-ready, step-run, step-fits}
 
 -- set-up refuses with 4, and never with 0
-accepted : (t : Bool) (b n k : ℕ) (m l l′ : List ℕ) → Outcome (set-up t b n k (word-of m)) m l 0 m l′ →
+pub accepted : (t : Bool) (b n k : ℕ) (m l l′ : List ℕ) → Outcome (set-up t b n k (word-of m)) m l 0 m l′ →
     set-up true b n k (word-of m) ≡ done (state-of m l′)
 unfolding set-up check
 accepted true b n k m l l′ o = go (true && ram-fits b n && ltb k n) o
