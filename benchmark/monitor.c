@@ -79,7 +79,7 @@ static int exists(uint64_t g)
     return g >= 1 && g <= GUESTS && m.guests[g].exists;
 }
 
-void plain_set_up(uint8_t *ram, void *frames, uint64_t n, uint64_t b, uint64_t k)
+void plain_set_up(uint8_t *ram, void *frames, uint64_t b, uint64_t n, uint64_t k)
 {
     m.ram = ram;
     m.frames = frames;

@@ -9,7 +9,7 @@
 #include "pageledger.h"
 
 size_t plain_ledger_bytes(uint64_t n);
-void plain_set_up(uint8_t *ram, void *frames, uint64_t n, uint64_t b, uint64_t k);
+void plain_set_up(uint8_t *ram, void *frames, uint64_t b, uint64_t n, uint64_t k);
 uint64_t plain_create(uint64_t g), plain_give(uint64_t f, uint64_t g), plain_map(uint64_t f, uint64_t g, uint64_t a, uint64_t r);
 uint64_t plain_unmap(uint64_t a, uint64_t g), plain_take(uint64_t f, uint64_t g), plain_invalidated(uint64_t g);
 
@@ -57,12 +57,12 @@ static void begin(int ours)
 {
     size = FIRST + PAGES;
     if (ours) {
-        must(pageledger_set_up(SLICES, size, base, 1), "set-up");
+        must(pageledger_set_up(SLICES, base, size, 1), "set-up");
         must(pageledger_create(SLICES, 1), "create");
         for (uint64_t f = FIRST; f < size; f++)
             must(pageledger_give(SLICES, f, 1), "give");
     } else {
-        plain_set_up(ram, plain_ledger, size, base, 1);
+        plain_set_up(ram, plain_ledger, base, size, 1);
         must(plain_create(1), "create");
         for (uint64_t f = FIRST; f < size; f++)
             must(plain_give(f, 1), "give");
@@ -118,11 +118,13 @@ static void forget(int ours)
 /* What was mapped translates alike on both sides: the walk of document 01 on the tables that each has made. */
 static uint64_t seen(uint64_t root)
 {
-    uint64_t answer[7], sum = 0;
+    uint64_t answer[PAGELEDGER_ANSWER_NUMBERS], sum = 0;
     for (uint64_t i = 0; i < PAGES; i += 7)
-        for (uint64_t access = 0; access < 3; access++) {
-            pageledger_stage2(ram, 4096 * size, base, size, root, 4096 * i + 8, access, answer, 7);
-            sum = sum * 31 + answer[0] * 7 + answer[1] + answer[2] + answer[4];
+        for (uint64_t access = PAGELEDGER_READ; access <= PAGELEDGER_EXECUTE; access++) {
+            must(pageledger_stage2(ram, 4096 * size, base, size, root, 4096 * i + 8, access, answer, PAGELEDGER_ANSWER_NUMBERS),
+                 "stage 2");
+            sum = sum * 31 + answer[PAGELEDGER_ANSWER_WHAT] * 7 + answer[PAGELEDGER_ANSWER_ADDRESS] + answer[PAGELEDGER_ANSWER_KIND]
+                  + answer[PAGELEDGER_ANSWER_LEVEL];
         }
     return sum;
 }
@@ -160,7 +162,9 @@ static void compare(void)
                 must(give_and_take_all(ours), "give and take");
                 keep(began, &give[ours][run]);
             }
-    struct { const char *name; double (*times)[RUNS]; } rows[] = {{"map", map}, {"unmap", unmap}, {"map+unmap", pair}, {"give+take", give}};
+    struct { const char *name; double (*times)[RUNS]; } rows[] = {
+        {"map", map}, {"unmap", unmap}, {"map+unmap", pair}, {"give+take", give},
+    };
     for (int i = 0; i < 4; i++) {
         printf("compare %s", rows[i].name);
         print_runs(rows[i].times[0], PAGES);
@@ -175,22 +179,24 @@ enum { TIMES = 511 };
 static void grow(uint64_t frames)
 {
     enum { SET_UP, CREATE, GIVE, MAP, UNMAP, SHARE, UNSHARE, TAKE, DESTROY, INVALIDATED, TRANSLATION, ROWS };
-    static const char *names[] = {"set-up", "create", "give", "map", "unmap", "share", "unshare", "take", "destroy", "invalidated", "translation"};
+    static const char *names[] = {"set-up", "create", "give", "map", "unmap", "share", "unshare", "take", "destroy", "invalidated",
+                                  "translation"};
     double fastest[ROWS][RUNS] = {{0}};
-    uint64_t page = frames - 1, answer[7];
+    uint64_t page = frames - 1, answer[PAGELEDGER_ANSWER_NUMBERS];
     size = frames;
     /* A single call is shorter than what the clock can tell, so a turn has as many as change nothing that the next call needs. */
     #define TIMED(row, calls) do { double began = now(); calls; keep(began, &fastest[row][run]); } while (0)
     for (int run = 0; run < RUNS; run++)
         for (int turn = 0; turn < TURNS; turn++) {
-            TIMED(SET_UP, must(pageledger_set_up(SLICES, size, base, 1), "set-up"));
+            TIMED(SET_UP, must(pageledger_set_up(SLICES, base, size, 1), "set-up"));
             must(pageledger_create(SLICES, 1), "create");
             must(pageledger_create(SLICES, 2), "create");
             TIMED(CREATE, must(pageledger_create(SLICES, 3), "create"));
             TIMED(GIVE, must(pageledger_give(SLICES, page, 1), "give"));
             must(pageledger_map(SLICES, page, 1, 4096 * TIMES, 1), "map");
             TIMED(MAP, for (uint64_t i = 0; i < TIMES; i++) must(pageledger_map(SLICES, page, 1, 4096 * i, 1), "map"));
-            TIMED(TRANSLATION, for (uint64_t i = 0; i < TIMES; i++) must(pageledger_translation(SLICES, 1, 4096 * i, 0, answer, 7), "translation"));
+            TIMED(TRANSLATION, for (uint64_t i = 0; i < TIMES; i++)
+                  must(pageledger_translation(SLICES, 1, 4096 * i, PAGELEDGER_READ, answer, PAGELEDGER_ANSWER_NUMBERS), "translation"));
             TIMED(UNMAP, for (uint64_t i = 0; i < TIMES; i++) must(pageledger_unmap(SLICES, 4096 * i, 1), "unmap"));
             must(pageledger_unmap(SLICES, 4096 * TIMES, 1), "unmap");
             TIMED(INVALIDATED, must(pageledger_invalidated(SLICES, 1), "invalidated"));

@@ -91,7 +91,8 @@ def page(rows, growth, load):
     return "\n".join([
         "# Speed beside C",
         "",
-        "Written by `./bench`. A ratio of 1 is the speed of plain C (benchmark/walk.c and monitor.c) of the same definitions; less is faster.",
+        "Written by `./bench`. A ratio of 1 is the speed of plain C (benchmark/walk.c and monitor.c) of the same definitions;",
+        "less is faster.",
         "What is to be reached is meant beside clang -O2. " + (f"NOT reached: {'; '.join(missed)}." if missed else "All of it is reached."),
         "",
         *table(rows),
@@ -100,16 +101,17 @@ def page(rows, growth, load):
         "",
         "Both sides are compiled by the kit's clang, and the kit compiles the library at -O3. One process does both, in short turns, and a",
         f"run counts the fastest turn of each side. The figures are the median, the lowest and the highest ratio of {RUNS} runs on one core.",
-        "Every walk succeeds, with 4 descriptors for stage 2 and 24 for both stages, and has addresses that no other turn of the run has; the",
-        "hot image has 16 frames, the cold one 65,536 (256 MiB). map and unmap go over 16,384 consecutive pages, each its own frame, and their",
-        "tables are there. The plain C has a ledger of 28 bytes a frame, ours has 64.",
+        "Every walk succeeds, with 4 descriptors for stage 2 and 24 for both stages, and has addresses that no other turn of the run",
+        "has; the hot image has 16 frames, the cold one 65,536 (256 MiB). map and unmap go over 16,384 consecutive pages, each its own",
+        "frame, and their tables are there. The plain C has a ledger of 28 bytes a frame, ours has 64.",
         "",
         "## As RAM grows",
         "",
-        "The library's time for one operation, as a multiple of its time at 16 frames in the same run. Set-up, destroy and invalidated look at",
-        "every frame. The others look at a fixed number of frames; what they gain or lose is the processor's caches: at 65,536 frames the page",
-        "that give clears, and its row of the ledger, are not in them. Counted once by valgrind, the instructions of create, give, share, unshare, map,",
-        "unmap and take are the same at 16 and at 65,536 frames (share 41, unmap 63, take 54, and 4,169 for give, which clears the frame).",
+        "The library's time for one operation, as a multiple of its time at 16 frames in the same run. Set-up, destroy and invalidated",
+        "look at every frame. The others look at a fixed number of frames; what they gain or lose is the processor's caches: at 65,536",
+        "frames the page that give clears, and its row of the ledger, are not in them. Counted once by valgrind, the instructions of",
+        "create, give, share, unshare, map, unmap and take are the same at 16 and at 65,536 frames (share 41, unmap 63, take 54, and",
+        "4,169 for give, which clears the frame).",
         "",
         *growth_table(growth),
         "",
@@ -118,26 +120,57 @@ def page(rows, growth, load):
     ])
 
 
+# The picture, in pixels: its width; where the bars begin and end, and the figures stand; a bar, and the gap between two things.
+WIDTH, LEFT, RIGHT, FIGURES = 860, 280, 790, 840
+TOP, BAR, GAP = 66, 14, 14
+SHADES = {2: "#4a7db5", 3: "#a9c3de"}
+MARK = "#c00000"
+
+
+def text(x, y, words, anchor="start", more=""):
+    return f'<text x="{x:.1f}" y="{y:.1f}" text-anchor="{anchor}"{more}>{words}</text>'
+
+
+def line(x1, y1, x2, y2, colour, width):
+    return f'<line x1="{x1:.1f}" y1="{y1:.1f}" x2="{x2:.1f}" y2="{y2:.1f}" stroke="{colour}" stroke-width="{width}"/>'
+
+
+def legend():
+    out, x, y = [text(12, 22, "The library's time as a multiple of C's: less is faster", more=' font-size="15" font-weight="bold"')], 12, 44
+    for level, shade in SHADES.items():
+        out += [f'<rect x="{x}" y="{y - 10}" width="22" height="{BAR - 2}" fill="{shade}"/>', text(x + 28, y, f"beside C at -O{level}")]
+        x += 155
+    out += [line(x, y - 4, x + 22, y - 4, "black", 2), text(x + 28, y, "lowest to highest of the runs, the bar is the median")]
+    x += 370
+    return out + [line(x, y - 12, x, y + 3, MARK, 2), text(x + 8, y, "to reach, beside -O2")]
+
+
+def bars(row, y, x):
+    """A row's bar from 0, its runs, its figure in a column of its own, and what it has to reach, which is meant beside -O2 alone."""
+    low, middle, high = x(row.ratios[0]), x(row.ratio), x(row.ratios[-1])
+    out = [f'<rect x="{LEFT}" y="{y}" width="{middle - LEFT:.1f}" height="{BAR}" fill="{SHADES[row.level]}"/>',
+           line(low, y + BAR / 2, high, y + BAR / 2, "black", 2), text(FIGURES, y + BAR - 3, f"{row.ratio:.2f}", "end")]
+    if row.goal and row.level == 2:
+        out.append(line(x(row.goal), y - 3, x(row.goal), y + BAR, MARK, 2))
+    return out
+
+
 def svg(rows):
-    scale, left, top, step = 330, 330, 40, 24
-    x = lambda ratio: left + scale * (ratio - 0.5)
-    height = top + step * len(rows) + 20
-    out = [f'<svg xmlns="http://www.w3.org/2000/svg" width="740" height="{height}" font-family="sans-serif" font-size="12">',
-           '<rect width="100%" height="100%" fill="white"/>',
-           '<text x="10" y="18" font-size="14">Time as a multiple of C\'s: median, lowest and highest of five runs; red: to reach</text>',
-           f'<line x1="{x(1):.1f}" y1="{top - 12}" x2="{x(1):.1f}" y2="{height - 18}" stroke="#444"/>']
-    for mark in (0.5, 0.75, 1.0, 1.25, 1.5):
-        out.append(f'<text x="{x(mark):.1f}" y="{height - 5}" text-anchor="middle">{mark}</text>')
-    for i, row in enumerate(rows):
-        y = top + step * i
-        low, middle, high = (x(min(r, 1.6)) for r in (row.ratios[0], row.ratio, row.ratios[-1]))
-        fill = "#4a7db5" if row.level == 2 else "#a9c3de"
-        out += [f'<text x="{left - 8}" y="{y + 12}" text-anchor="end">{row.what}, {row.where}, C -O{row.level}</text>',
-                f'<rect x="{left}" y="{y}" width="{middle - left:.1f}" height="16" fill="{fill}"/>',
-                f'<line x1="{low:.1f}" y1="{y + 8}" x2="{high:.1f}" y2="{y + 8}" stroke="black" stroke-width="2"/>',
-                f'<text x="{max(high, middle) + 6:.1f}" y="{y + 12}">{row.ratio:.2f}</text>']
-        if row.goal:
-            out.append(f'<line x1="{x(row.goal):.1f}" y1="{y - 2}" x2="{x(row.goal):.1f}" y2="{y + 18}" stroke="#c00"/>')
+    things = list(dict.fromkeys((row.what, row.where) for row in rows))
+    most = max(1.25, *(ratio for row in rows for ratio in row.ratios), *(row.goal or 0 for row in rows))
+    quarters = -int(-most // 0.25)
+    x = lambda ratio: LEFT + (RIGHT - LEFT) * ratio / (0.25 * quarters)
+    bottom = TOP + len(things) * (len(SHADES) * BAR + GAP)
+    out = [f'<svg xmlns="http://www.w3.org/2000/svg" width="{WIDTH}" height="{bottom + 26}" viewBox="0 0 {WIDTH} {bottom + 26}" '
+           'font-family="sans-serif" font-size="12">', '<rect width="100%" height="100%" fill="white"/>', *legend()]
+    for mark in (0.25 * i for i in range(quarters + 1)):
+        out += [line(x(mark), TOP - 6, x(mark), bottom, "#666" if mark == 1 else "#ddd", 1),
+                text(x(mark), bottom + 16, f"{mark:g}", "middle")]
+    for i, (what, where) in enumerate(things):
+        y = TOP + i * (len(SHADES) * BAR + GAP)
+        out += [text(LEFT - 10, y + BAR - 3, what, "end"), text(LEFT - 10, y + 2 * BAR - 3, where, "end", ' fill="#666"')]
+        for row in (r for r in rows if (r.what, r.where) == (what, where)):
+            out += bars(row, y + BAR * (row.level - 2), x)
     return "\n".join(out + ["</svg>", ""])
 
 
@@ -153,4 +186,5 @@ def main(folder, *words):
     (DOCS / "benchmark.svg").write_text(svg(rows))
 
 
-main(*sys.argv[1:])
+if __name__ == "__main__":
+    main(*sys.argv[1:])

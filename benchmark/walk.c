@@ -4,7 +4,7 @@ typedef __UINT8_TYPE__ uint8_t;
 typedef __UINT64_TYPE__ uint64_t;
 typedef __SIZE_TYPE__ size_t;
 
-enum { DONE = 0, SHORT = 15 };
+enum { DONE = 0, SHORT = 64 };
 enum { FOUND, FAULT, DURING, REFUSED };
 enum { NO_KIND, WALK_ABORT, TRANSLATION, NOT_MODELLED, ACCESS_FLAG, PERMISSION };
 enum { READ, WRITE, EXECUTE };

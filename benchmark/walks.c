@@ -9,7 +9,8 @@
 #include "pageledger.h"
 
 typedef uint64_t stage2_fn(const uint8_t *, size_t, uint64_t, uint64_t, uint64_t, uint64_t, uint64_t, uint64_t *, size_t);
-typedef uint64_t both_fn(const uint8_t *, size_t, uint64_t, uint64_t, uint64_t, uint64_t, uint64_t, uint64_t, uint64_t, uint64_t *, size_t);
+typedef uint64_t both_fn(const uint8_t *, size_t, uint64_t, uint64_t, uint64_t, uint64_t, uint64_t, uint64_t, uint64_t,
+                         uint64_t *, size_t);
 stage2_fn plain_stage2;
 both_fn plain_both_stages;
 
@@ -91,12 +92,13 @@ static uint64_t time_both(both_fn *f, long from, long walks, double *fastest)
 
 static int differ(uint64_t a, uint64_t access, uint64_t el)
 {
-    uint64_t c[7], ours[7], c2[7], ours2[7];
-    plain_stage2(ram, length, base, frames, base, a, access, c, 7);
-    pageledger_stage2(ram, length, base, frames, base, a, access, ours, 7);
-    plain_both_stages(ram, length, base, frames, base, base, a, access, el, c2, 7);
-    pageledger_both_stages(ram, length, base, frames, base, base, a, access, el, ours2, 7);
-    return memcmp(c, ours, sizeof c) || memcmp(c2, ours2, sizeof c2);
+    enum { N = PAGELEDGER_ANSWER_NUMBERS };
+    uint64_t c[N], ours[N], c2[N], ours2[N];
+    uint64_t status = plain_stage2(ram, length, base, frames, base, a, access, c, N)
+                      | pageledger_stage2(ram, length, base, frames, base, a, access, ours, N)
+                      | plain_both_stages(ram, length, base, frames, base, base, a, access, el, c2, N)
+                      | pageledger_both_stages(ram, length, base, frames, base, base, a, access, el, ours2, N);
+    return status != PAGELEDGER_DONE || memcmp(c, ours, sizeof c) || memcmp(c2, ours2, sizeof c2);
 }
 
 static void report(const char *name, double fastest[2][RUNS], long walks)

@@ -3,11 +3,13 @@
  * host/ holds to a second implementation of documents 01 and 03. */
 #include <inttypes.h>
 #include <stdio.h>
+#include <stdlib.h>
 #include "pageledger.h"
 
-enum { FRAMES = 64, WALKS = 100000, ROUNDS = 4, OPERATIONS = 10000, PLACES = 12 };
+enum { FRAMES = 64, WALKS = 100000, ROUNDS = 4, OPERATIONS = 10000, PLACES = 12, APART = 0x40201000 };
 static const uint64_t base = 0x40000000;
-static uint64_t words[PAGELEDGER_RAM_BYTES(FRAMES) / 8];
+/* Whole pages, for tests/stores.c, which protects them. */
+static uint64_t words[PAGELEDGER_RAM_BYTES(FRAMES) / 8] __attribute__((aligned(4096)));
 static uint32_t ledger[PAGELEDGER_LEDGER_WORDS(FRAMES)];
 #define RAM (uint8_t *)words, sizeof words
 #define BOTH RAM, ledger, PAGELEDGER_LEDGER_WORDS(FRAMES)
@@ -34,20 +36,29 @@ static void take_in_all(const uint64_t *x, size_t n)
         take_in(x[i]);
 }
 
+/* Every array here has room for its answer. */
+static void has_room(uint64_t status)
+{
+    if (status != PAGELEDGER_DONE) {
+        printf("status %" PRIu64 "\n", status);
+        exit(1);
+    }
+}
+
 /* RAM word by word; of the ledger what can be asked of it, since how it lies there is no promise. */
 static void take_in_state(void)
 {
-    uint64_t answer[3];
+    uint64_t answer[PAGELEDGER_ANSWER_NUMBERS];
     take_in_all(words, sizeof words / sizeof *words);
     for (uint64_t f = 0; f < FRAMES; f++) {
-        pageledger_frame(BOTH, f, answer, 3);
-        take_in_all(answer, 3);
+        has_room(pageledger_frame(BOTH, f, answer, PAGELEDGER_FRAME_NUMBERS));
+        take_in_all(answer, PAGELEDGER_FRAME_NUMBERS);
         for (uint64_t g = 1; g <= PAGELEDGER_GUESTS; g++)
             take_in(pageledger_shared_with(BOTH, f, g));
     }
     for (uint64_t g = 1; g <= PAGELEDGER_GUESTS; g++) {
-        pageledger_guest(BOTH, g, answer, 3);
-        take_in_all(answer, 3);
+        has_room(pageledger_guest(BOTH, g, answer, PAGELEDGER_GUEST_NUMBERS));
+        take_in_all(answer, PAGELEDGER_GUEST_NUMBERS);
     }
 }
 
@@ -68,7 +79,8 @@ static uint64_t number(uint64_t below)
 /* Tables that lead into RAM, with the bits of a descriptor right more often than not, and with others now and then. */
 static uint64_t descriptor(void)
 {
-    uint64_t d = (base + 4096 * random_below(FRAMES + 1)) | 0x4c0 | (random_below(6) ? 3 : random_below(4));
+    uint64_t d = (base + 4096 * random_below(FRAMES + 1)) | 0x4c0;
+    d |= random_below(6) ? 3 : random_below(4);
     return random_below(8) ? d : d ^ (uint64_t)1 << random_below(60);
 }
 
@@ -76,34 +88,57 @@ static void walk_at_random(void)
 {
     uint64_t answer[PAGELEDGER_ANSWER_NUMBERS], root1 = 4096 * random_below(FRAMES), root2 = base + 4096 * random_below(FRAMES);
     uint64_t va = number((uint64_t)1 << 48), access = number(3), el = number(2);
-    words[random_below(sizeof words / sizeof *words)] = descriptor();
-    take_in(random_below(2) ? pageledger_stage2(RAM, base, FRAMES, root2, va, access, answer, PAGELEDGER_ANSWER_NUMBERS)
-                            : pageledger_both_stages(RAM, base, FRAMES, root1 + base, root2, va, access, el, answer, PAGELEDGER_ANSWER_NUMBERS));
+    size_t place = random_below(sizeof words / sizeof *words); /* apart: C does not say which side of = comes first */
+    words[place] = descriptor();
+    take_in(random_below(2)
+            ? pageledger_stage2(RAM, base, FRAMES, root2, va, access, answer, PAGELEDGER_ANSWER_NUMBERS)
+            : pageledger_both_stages(RAM, base, FRAMES, root1 + base, root2, va, access, el, answer, PAGELEDGER_ANSWER_NUMBERS));
     take_in_all(answer, PAGELEDGER_ANSWER_NUMBERS);
     seen[4 * (answer[PAGELEDGER_ANSWER_WHAT] & 3) + (answer[PAGELEDGER_ANSWER_LEVEL] & 3)]++;
 }
 
-static uint64_t operate_at_random(void)
+enum operation { CREATE, GIVE, MAP, UNMAP, SHARE, UNSHARE, TAKE, DESTROY, INVALIDATED };
+
+/* An operation with its arguments; `last` is map's rights or share's writing. */
+struct call {
+    enum operation operation;
+    uint64_t f, g, h, a, last;
+};
+
+static struct call call_at_random(void)
 {
-    uint64_t f = number(FRAMES + 1), g = number(5), h = number(5), a = number(PLACES) * 0x40201000;
-    switch (random_below(32)) {
-    case 0: return pageledger_destroy(BOTH, g);
-    case 1: case 2: case 3: return pageledger_create(BOTH, g);
-    case 4: case 5: case 6: return pageledger_invalidated(BOTH, g);
-    case 7: case 8: case 9: case 10: return pageledger_give(BOTH, f, g);
-    case 11: case 12: case 13: case 14: case 15: case 16: case 17: case 18: return pageledger_map(BOTH, f, g, a, number(8));
-    case 19: case 20: case 21: return pageledger_unmap(BOTH, a, g);
-    case 22: case 23: case 24: case 25: return pageledger_share(BOTH, g, f, h, number(2));
-    case 26: case 27: return pageledger_unshare(BOTH, g, f, h);
-    default: return pageledger_take(BOTH, f, g);
+    uint64_t f = number(FRAMES + 1), g = number(5), h = number(5), a = number(PLACES) * APART;
+    struct call call = {TAKE, f, g, h, a, 0};
+    uint64_t which = random_below(32);
+    if (which < 28)
+        call.operation = which < 1 ? DESTROY : which < 4 ? CREATE : which < 7 ? INVALIDATED : which < 11 ? GIVE
+                       : which < 19 ? MAP : which < 22 ? UNMAP : which < 26 ? SHARE : UNSHARE;
+    if (call.operation == MAP || call.operation == SHARE)
+        call.last = number(call.operation == MAP ? 8 : 2);
+    return call;
+}
+
+static uint64_t perform(struct call call)
+{
+    switch (call.operation) {
+    case CREATE: return pageledger_create(BOTH, call.g);
+    case GIVE: return pageledger_give(BOTH, call.f, call.g);
+    case MAP: return pageledger_map(BOTH, call.f, call.g, call.a, call.last);
+    case UNMAP: return pageledger_unmap(BOTH, call.a, call.g);
+    case SHARE: return pageledger_share(BOTH, call.g, call.f, call.h, call.last);
+    case UNSHARE: return pageledger_unshare(BOTH, call.g, call.f, call.h);
+    case TAKE: return pageledger_take(BOTH, call.f, call.g);
+    case DESTROY: return pageledger_destroy(BOTH, call.g);
+    default: return pageledger_invalidated(BOTH, call.g);
     }
 }
 
 static void ask_at_random(void)
 {
-    uint64_t answer[PAGELEDGER_ANSWER_NUMBERS] = {0}, f = number(FRAMES + 1), g = number(5), a = number(PLACES) * 0x40201000, access = number(3);
+    uint64_t answer[PAGELEDGER_ANSWER_NUMBERS] = {0}, *second = answer + PAGELEDGER_FRAME_NUMBERS;
+    uint64_t f = number(FRAMES + 1), g = number(5), a = number(PLACES) * APART, access = number(3);
     take_in(pageledger_frame(BOTH, f, answer, PAGELEDGER_ANSWER_NUMBERS));
-    take_in(pageledger_guest(BOTH, g, answer + 3, PAGELEDGER_ANSWER_NUMBERS - 3));
+    take_in(pageledger_guest(BOTH, g, second, PAGELEDGER_ANSWER_NUMBERS - PAGELEDGER_FRAME_NUMBERS));
     take_in(pageledger_shared_with(BOTH, f, g));
     take_in_all(answer, PAGELEDGER_ANSWER_NUMBERS);
     take_in(pageledger_translation(BOTH, g, a, access, answer, PAGELEDGER_ANSWER_NUMBERS));
@@ -118,9 +153,9 @@ int main(void)
         walk_at_random();
     show("walks", WALKS);
     for (int round = 0; round < ROUNDS; round++) {
-        take_in(pageledger_set_up(BOTH, FRAMES, base, 2));
+        take_in(pageledger_set_up(BOTH, base, FRAMES, 2));
         for (int i = 0; i < OPERATIONS; i++) {
-            uint64_t answered = operate_at_random();
+            uint64_t answered = perform(call_at_random());
             take_in(answered);
             seen[answered & 15]++;
             ask_at_random();

@@ -1,5 +1,5 @@
 #!/usr/bin/env python3
-"""golden.py PROGRAM [WORD...]: runs it on every NAME.script here and holds its output to NAME.expected."""
+"""golden.py PROGRAM [WORD...]: runs it on every NAME.script of scripts/ and emulator/ and holds its output to NAME.expected."""
 
 import pathlib
 import subprocess
@@ -19,7 +19,7 @@ def check(program, script):
 
 def main(program):
     count = tally.Tally()
-    names = {file.with_suffix(".script") for end in ("script", "expected") for file in HERE.rglob(f"*.{end}")}
+    names = {file.with_suffix(".script") for end in ("script", "expected") for file in HERE.glob(f"*/*.{end}")}
     for script in sorted(names):
         count.check(script.relative_to(HERE), check(program, script))
     count.finish()

@@ -6,20 +6,17 @@ import pathlib
 import re
 import struct
 
+import header
+import stack
 import tally
 
 HERE = pathlib.Path(__file__).resolve().parent.parent
 OUT = HERE / "out"
 HELPERS = {"memset", "memcpy", "memmove"}
 X86_64, AARCH64 = 62, 183
-JUMP26, CALL26 = 282, 283  # what a linker fills in: a jump to a symbol, a call of it
-
-
-class Function:
-    """A function's instructions, and by their places the names of the functions that it calls."""
-
-    def __init__(self, words, calls):
-        self.words, self.calls = words, calls
+# What a linker fills in: jumps to a symbol, the first two of them on a condition, and a call of it.
+TSTBR14, CONDBR19, JUMP26, CALL26 = 279, 280, 282, 283
+STACK = 1024  # bytes: the header says that less is taken
 
 
 class Object:
@@ -50,13 +47,13 @@ class Object:
             for at in range(s[4], s[4] + s[5], 24) if s[1] == 4 else ():
                 where, info, more = struct.unpack_from("<QQq", data, at)
                 symbol, _, section, value, _ = symbols[info >> 32]
-                if info & 0xffffffff in (JUMP26, CALL26):
+                if info & 0xffffffff in (TSTBR14, CONDBR19, JUMP26, CALL26):
                     called[s[7], where] = starts.get((section, value + more), symbol)
         for symbol, info, section, value, size in symbols:
             if info & 15 == 2 and section:
                 words = struct.unpack_from(f"<{size // 4}I", data, sections[section][4] + value)
                 places = {i: called.get((section, value + 4 * i)) for i in range(len(words))}
-                self.functions[symbol] = Function(words, {i: name for i, name in places.items() if name is not None})
+                self.functions[symbol] = stack.Function(words, {i: name for i, name in places.items() if name is not None})
 
     def instructions(self):
         return [word for function in self.functions.values() for word in function.words]
@@ -76,11 +73,6 @@ def members(archive):
             names = body
         elif name != "/":
             yield Object(name if not re.fullmatch(r"/\d+", name) else names[int(name[1:]):].split(b"/\n")[0].decode(), body)
-
-
-def functions_of_header():
-    text = re.sub(r"/\*.*?\*/", "", (OUT / "include/pageledger.h").read_text(), flags=re.S)
-    return set(re.findall(r"\b(pageledger_\w+)\(", text))
 
 
 # ---- Arm instructions, by their bits (Arm Architecture Reference Manual, "A64 instruction set encoding")
@@ -124,6 +116,17 @@ def stores_descriptor(word):
     return word & 0xffe00c00 == 0xf8200800
 
 
+def releases_descriptor(word):
+    """A store of eight bytes that no observer sees before those that came before it: stlr x, [x]."""
+    return word & 0xfffffc00 == 0xc89ffc00
+
+
+def plain_stores(steps):
+    """How many stores of eight bytes and more are no release, but for those on the stack (base register 31): str x, and stp x, x."""
+    pairs = [word for word, _ in steps if word & 0xfe400000 == 0xa8000000 and (word >> 5) & 31 != 31]
+    return len(pairs) + sum(f is not None and f[0] == 8 and not f[1] and f[2] != 31 for f in (one_register(word) for word, _ in steps))
+
+
 def steps(functions, name):
     """A function's instructions in the order of the code, its callees' in the place of a call; each with the name of a callee that is
     not among these functions."""
@@ -135,14 +138,9 @@ def steps(functions, name):
             yield word, callee
 
 
-def writes_to_ram(steps):
+def writes_to_ram(steps, stores):
     """C for a frame cleared, S for a descriptor stored, ? for a call of something else."""
-    return "".join({None: "S" if stores_descriptor(word) else "", "memset": "C"}.get(callee, "?") for word, callee in steps)
-
-
-def frame_sizes(words):
-    """What is taken from the stack pointer: sub sp, sp, #n."""
-    return [((word >> 10) & 0xfff) << (12 if word >> 22 & 1 else 0) for word in words if word & 0xff8003ff == 0xd10003ff]
+    return "".join({None: "S" if stores(word) else "", "memset": "C"}.get(callee, "?") for word, callee in steps)
 
 
 # What a function clears and stores. In map a new table is cleared before it is linked, and the page's entry comes last; set-up clears
@@ -154,22 +152,38 @@ READS = {"pageledger_map": 2, "pageledger_unmap": 2, "pageledger_both_stages": 1
 WALKS = {"pageledger_stage2", "pageledger_both_stages"}
 
 
-def check_functions(say, functions):
-    """Arm: each descriptor is read by one load and written by one store."""
+def check_functions(say, functions, stores):
+    """Arm: each descriptor is read by one load and written by one store, of the kind that `stores` knows."""
     words = [word for function in functions.values() for word in function.words]
     say("has code", None if len(words) > 100 else f"{len(words)} instructions")
     exported = {name: list(steps(functions, name)) for name in functions if name.startswith("pageledger_")}
     small = {name: small_loads(s, 8 if name in WALKS else 4) for name, s in exported.items()}
-    say("reads RAM by no load of fewer than 64 bits", ", ".join(f"{name} has loads of {found} bytes" for name, found in small.items() if found))
+    found = ", ".join(f"{name} has loads of {sizes} bytes" for name, sizes in small.items() if sizes)
+    say("reads RAM by no load of fewer than 64 bits", found)
     wrong = [name for name, least in READS.items() if sum(loads_descriptor(word) for word, _ in exported[name]) < least]
     say("reads a descriptor by one 64-bit load", wrong and f"{', '.join(wrong)}: too few ldr x, [x, x]")
-    wrote = {name: writes_to_ram(s) for name, s in exported.items()}
+    wrote = {name: writes_to_ram(s, stores) for name, s in exported.items()}
     wrong = [f"{name} writes '{what}'" for name, what in wrote.items() if not re.fullmatch(WRITES.get(name, ""), what)]
     say("writes a descriptor by one 64-bit store, and links a table once it is cleared", ", ".join(wrong))
+    if stores is releases_descriptor:
+        wrong = [name for name, what in WRITES.items() if "S" in what and plain_stores(exported[name])]
+        wrong += [name for name, s in exported.items() if any(stores_descriptor(word) for word, _ in s)]
+        wrong = ", ".join(sorted(set(wrong)))
+        say("writes no descriptor but by a store-release", wrong and f"{wrong}: a plain 64-bit store, not the stack's")
     say("calls back nobody", "there is a call of a register" if any(map(calls_register, words)) else None)
     say("divides nothing", "there are divisions" if any(map(divides, words)) else None)
-    large = [size for size in frame_sizes(words) if size >= 1024]
-    say("takes less than 1 KiB of stack", f"a frame of {large[0]} bytes" if large else None)
+
+
+def check_stack(say, folder, functions, outside):
+    """Arm: the deepest chain of calls from any function of the header, its helpers among them, takes less stack than the header says."""
+    try:
+        size, chain = max(stack.deepest(functions, name, outside) for name in functions if name.startswith("pageledger_"))
+    except stack.Fault as why:
+        say("its stack can be counted", str(why))
+        return
+    print(f"{folder} takes {size} bytes of stack at most: {' > '.join(chain)}"
+          + (f"; what {', '.join(sorted(outside))} of the C library take is not counted" if outside else ""))
+    say(f"takes less than {STACK} bytes of stack", None if size < STACK else f"{size}")
 
 
 def check_archive(count, folder, machine, functions):
@@ -189,19 +203,23 @@ def check_archive(count, folder, machine, functions):
         say("has all that it wants", listed(set().union(*(o.wanted for o in objects)) - defined))
         say("its helpers are these three alone", listed(set().union(*(o.defined for o in helpers)) ^ HELPERS))
         clears = [w for o in helpers for w in o.functions["memset"].words] if helpers else []
-        say("clears by 64-bit stores", None if any(one_register(w) and one_register(w)[:2] == (8, False) for w in clears) else "it does not")
+        wide = any(one_register(w) and one_register(w)[:2] == (8, False) for w in clears)
+        say("clears by 64-bit stores", None if wide else "it does not")
         say("uses no vector register", "it does" if any(uses_vectors(w) for o in objects for w in o.instructions()) else None)
     else:
         say("has no helpers", listed(o.name for o in helpers))
     if machine != AARCH64:
         return
-    check_functions(say, {name: f for o in ours for name, f in o.functions.items()})
+    stores = releases_descriptor if folder == "aarch64-none-elf" else stores_descriptor
+    check_functions(say, {name: f for o in ours for name, f in o.functions.items()}, stores)
+    wanted = set().union(*(o.wanted for o in objects)) - set().union(*(o.defined for o in objects))
+    check_stack(say, folder, {name: f for o in objects for name, f in o.functions.items()}, wanted)
 
 
 def main():
     count = tally.Tally()
-    functions = functions_of_header()
-    count.check("the header has functions", None if functions else "none was found")
+    functions = header.functions()
+    count.demand("the header has functions", None if functions else "none was found")
     for folder, machine in (("x86_64-linux", X86_64), ("aarch64-linux", AARCH64), ("aarch64-none-elf", AARCH64)):
         try:
             check_archive(count, folder, machine, functions)

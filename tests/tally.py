@@ -16,6 +16,12 @@ class Tally:
             self.failed += 1
             print(f"FAILED {name}: {problem}")
 
+    def demand(self, name, problem):
+        """As check, for what is about the test itself, as that it tries enough: no fault of the product can fail it, so where it holds it
+        is not counted."""
+        if problem is not None:
+            self.check(name, problem)
+
     def finish(self):
         print(f"{self.passed} passed, {self.failed} failed")
         sys.exit(self.failed != 0)

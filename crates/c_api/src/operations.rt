@@ -17,99 +17,119 @@ ghost use Rattle.monitor.specs.Destroy.{destroying};
 ghost use Rattle.monitor.specs.Invalidated.{invalidating};
 use monitor::start;
 
+// The first `reserved` of the frames from physical address `base` on are the monitor's.
 #[no_mangle]
-pub extern "C" fn pageledger_set_up(ram: &[u8], ledger: &mut [u32], n: u64, b: u64, k: u64) -> u64
-    ensures { λ r. ⌜ SetUp n b k (now (ram .entry)) (now (ledger .entry)) r (now (ledger .exit)) ⌝ }
+pub extern "C" fn pageledger_set_up(
+    ram: &[u8],
+    ledger: &mut [u32],
+    base: u64,
+    frames: u64,
+    reserved: u64,
+) -> u64
+    ensures { λ r. ⌜ SetUp base frames reserved (now (ram .entry)) (now (ledger .entry)) r (now (ledger .exit)) ⌝ }
 {
-    start::set_up(ram, ledger, n, b, k)
+    start::set_up(ram, ledger, base, frames, reserved)
 }
 
 #[no_mangle]
-pub extern "C" fn pageledger_create(ram: &mut [u8], ledger: &mut [u32], g: u64) -> u64
+pub extern "C" fn pageledger_create(ram: &mut [u8], ledger: &mut [u32], guest: u64) -> u64
     requires { ⌜ Sound (now ram) (now ledger) ⌝ }
-    ensures { λ r. ⌜ Answers (creating g) (now (ram .entry)) (now (ledger .entry)) r (now (ram .exit)) (now (ledger .exit)) ⌝ }
+    ensures { λ r. ⌜ Answers (creating guest) (now (ram .entry)) (now (ledger .entry)) r (now (ram .exit)) (now (ledger .exit)) ⌝ }
 {
-    monitor::create(ram, ledger, g)
+    monitor::create(ram, ledger, guest)
 }
 
 #[no_mangle]
-pub extern "C" fn pageledger_give(ram: &mut [u8], ledger: &mut [u32], f: u64, g: u64) -> u64
+pub extern "C" fn pageledger_give(ram: &mut [u8], ledger: &mut [u32], frame: u64, guest: u64) -> u64
     requires { ⌜ Sound (now ram) (now ledger) ⌝ }
-    ensures { λ r. ⌜ Answers (giving f g) (now (ram .entry)) (now (ledger .entry)) r (now (ram .exit)) (now (ledger .exit)) ⌝ }
+    ensures { λ r. ⌜ Answers (giving frame guest) (now (ram .entry)) (now (ledger .entry)) r (now (ram .exit)) (now (ledger .exit)) ⌝ }
 {
-    monitor::give(ram, ledger, f, g)
+    monitor::give(ram, ledger, frame, guest)
 }
 
+// Where it answers 0, every other address translates as before, and the walk finds the frame at `ipa` with these rights.
 #[no_mangle]
 pub extern "C" fn pageledger_map(
     ram: &mut [u8],
     ledger: &mut [u32],
-    f: u64,
-    g: u64,
-    a: u64,
-    r: u64,
+    frame: u64,
+    guest: u64,
+    ipa: u64,
+    rights: u64,
 ) -> u64
     requires { ⌜ Sound (now ram) (now ledger) ⌝ }
-    ensures { λ k. ⌜ Answers (mapping·of f g a r) (now (ram .entry)) (now (ledger .entry)) k (now (ram .exit)) (now (ledger .exit)) ⌝ }
-    ensures { λ k. ⌜ (k ≡ 0 → Translates (Map f g a r (pick-of (now (ledger .entry)))) (now (ram .entry)) (now (ledger .entry)) (now (ram .exit)) (now (ledger .exit))) ⌝ }
-    ensures { λ k. ⌜ (k ≡ 0 → Finds g a (some (f, r)) (now (ram .exit)) (now (ledger .exit))) ⌝ }
+    ensures { λ r. ⌜ Answers (mapping·of frame guest ipa rights)
+        (now (ram .entry)) (now (ledger .entry)) r (now (ram .exit)) (now (ledger .exit)) ⌝ }
+    ensures { λ r. ⌜ (r ≡ 0 → Translates (Map frame guest ipa rights (pick-of (now (ledger .entry))))
+        (now (ram .entry)) (now (ledger .entry)) (now (ram .exit)) (now (ledger .exit))) ⌝ }
+    ensures { λ r. ⌜ (r ≡ 0 → Finds guest ipa (some (frame, rights)) (now (ram .exit)) (now (ledger .exit))) ⌝ }
 {
-    monitor::map(ram, ledger, f, g, a, r)
+    monitor::map(ram, ledger, frame, guest, ipa, rights)
 }
 
+// Where it answers 0, every other address translates as before, and the walk finds nothing at `ipa`.
 #[no_mangle]
-pub extern "C" fn pageledger_unmap(ram: &mut [u8], ledger: &mut [u32], a: u64, g: u64) -> u64
+pub extern "C" fn pageledger_unmap(ram: &mut [u8], ledger: &mut [u32], ipa: u64, guest: u64) -> u64
     requires { ⌜ Sound (now ram) (now ledger) ⌝ }
-    ensures { λ r. ⌜ Answers (unmapping a g) (now (ram .entry)) (now (ledger .entry)) r (now (ram .exit)) (now (ledger .exit)) ⌝ }
-    ensures { λ r. ⌜ (r ≡ 0 → Translates (Unmap g a) (now (ram .entry)) (now (ledger .entry)) (now (ram .exit)) (now (ledger .exit))) ⌝ }
-    ensures { λ r. ⌜ (r ≡ 0 → Finds g a none (now (ram .exit)) (now (ledger .exit))) ⌝ }
+    ensures { λ r. ⌜ Answers (unmapping ipa guest) (now (ram .entry)) (now (ledger .entry)) r (now (ram .exit)) (now (ledger .exit)) ⌝ }
+    ensures { λ r. ⌜ (r ≡ 0 → Translates (Unmap ipa guest)
+        (now (ram .entry)) (now (ledger .entry)) (now (ram .exit)) (now (ledger .exit))) ⌝ }
+    ensures { λ r. ⌜ (r ≡ 0 → Finds guest ipa none (now (ram .exit)) (now (ledger .exit))) ⌝ }
 {
-    monitor::unmap(ram, ledger, a, g)
+    monitor::unmap(ram, ledger, ipa, guest)
 }
 
 #[no_mangle]
 pub extern "C" fn pageledger_share(
     ram: &[u8],
     ledger: &mut [u32],
-    g: u64,
-    f: u64,
-    h: u64,
-    w: u64,
+    owner: u64,
+    frame: u64,
+    with: u64,
+    writing: u64,
 ) -> u64
     requires { ⌜ Sound (now ram) (now ledger) ⌝ }
-    ensures { λ r. ⌜ Answers (sharing·of g f h w) (now (ram .entry)) (now (ledger .entry)) r (now (ram .entry)) (now (ledger .exit)) ⌝ }
+    ensures { λ r. ⌜ Answers (sharing·of owner frame with writing)
+        (now (ram .entry)) (now (ledger .entry)) r (now (ram .entry)) (now (ledger .exit)) ⌝ }
 {
-    monitor::share(ram, ledger, g, f, h, w)
+    monitor::share(ram, ledger, owner, frame, with, writing)
 }
 
 #[no_mangle]
-pub extern "C" fn pageledger_unshare(ram: &[u8], ledger: &mut [u32], g: u64, f: u64, h: u64) -> u64
+pub extern "C" fn pageledger_unshare(
+    ram: &[u8],
+    ledger: &mut [u32],
+    owner: u64,
+    frame: u64,
+    with: u64,
+) -> u64
     requires { ⌜ Sound (now ram) (now ledger) ⌝ }
-    ensures { λ r. ⌜ Answers (unsharing g f h) (now (ram .entry)) (now (ledger .entry)) r (now (ram .entry)) (now (ledger .exit)) ⌝ }
+    ensures { λ r. ⌜ Answers (unsharing owner frame with)
+        (now (ram .entry)) (now (ledger .entry)) r (now (ram .entry)) (now (ledger .exit)) ⌝ }
 {
-    monitor::unshare(ram, ledger, g, f, h)
+    monitor::unshare(ram, ledger, owner, frame, with)
 }
 
 #[no_mangle]
-pub extern "C" fn pageledger_take(ram: &[u8], ledger: &mut [u32], f: u64, g: u64) -> u64
+pub extern "C" fn pageledger_take(ram: &[u8], ledger: &mut [u32], frame: u64, owner: u64) -> u64
     requires { ⌜ Sound (now ram) (now ledger) ⌝ }
-    ensures { λ r. ⌜ Answers (taking f g) (now (ram .entry)) (now (ledger .entry)) r (now (ram .entry)) (now (ledger .exit)) ⌝ }
+    ensures { λ r. ⌜ Answers (taking frame owner) (now (ram .entry)) (now (ledger .entry)) r (now (ram .entry)) (now (ledger .exit)) ⌝ }
 {
-    monitor::take(ram, ledger, f, g)
+    monitor::take(ram, ledger, frame, owner)
 }
 
 #[no_mangle]
-pub extern "C" fn pageledger_destroy(ram: &[u8], ledger: &mut [u32], g: u64) -> u64
+pub extern "C" fn pageledger_destroy(ram: &[u8], ledger: &mut [u32], guest: u64) -> u64
     requires { ⌜ Sound (now ram) (now ledger) ⌝ }
-    ensures { λ r. ⌜ Answers (destroying g) (now (ram .entry)) (now (ledger .entry)) r (now (ram .entry)) (now (ledger .exit)) ⌝ }
+    ensures { λ r. ⌜ Answers (destroying guest) (now (ram .entry)) (now (ledger .entry)) r (now (ram .entry)) (now (ledger .exit)) ⌝ }
 {
-    monitor::destroy(ram, ledger, g)
+    monitor::destroy(ram, ledger, guest)
 }
 
 #[no_mangle]
-pub extern "C" fn pageledger_invalidated(ram: &[u8], ledger: &mut [u32], g: u64) -> u64
+pub extern "C" fn pageledger_invalidated(ram: &[u8], ledger: &mut [u32], guest: u64) -> u64
     requires { ⌜ Sound (now ram) (now ledger) ⌝ }
-    ensures { λ r. ⌜ Answers (invalidating g) (now (ram .entry)) (now (ledger .entry)) r (now (ram .entry)) (now (ledger .exit)) ⌝ }
+    ensures { λ r. ⌜ Answers (invalidating guest) (now (ram .entry)) (now (ledger .entry)) r (now (ram .entry)) (now (ledger .exit)) ⌝ }
 {
-    monitor::invalidated(ram, ledger, g)
+    monitor::invalidated(ram, ledger, guest)
 }

@@ -1,54 +1,57 @@
 // What a host may ask of the two slices; nothing but the lent array for the answer is changed.
 ghost use mathlib.Core.Path.{_≡_};
-ghost use lib.ListN.{length};
 ghost use Rattle.ledger.specs.Layout.{state-of};
 ghost use Rattle.ledger.specs.Sound.{Sound};
-ghost use Rattle.asking.specs.Questions.{frame-told, share-told, guest-told, translated};
-ghost use Rattle.c_numbers.specs.Answer.{numbers, frame-numbers, guest-numbers, status, told};
-use c_numbers;
+ghost use Rattle.monitor_query.specs.Questions.{frame-told, share-told, guest-told, translated};
+ghost use Rattle.c_answers.specs.Numbers.{answer-numbers, frame-numbers, guest-numbers};
+ghost use Rattle.c_answers.specs.Answers.{walk-answer, frame-answer, guest-answer, Tells};
+use c_answers;
 
-// What frame f is.
+// What a frame is.
 #[no_mangle]
-pub extern "C" fn pageledger_frame(ram: &[u8], ledger: &[u32], f: u64, out: &mut [u64]) -> u64
+pub extern "C" fn pageledger_frame(ram: &[u8], ledger: &[u32], frame: u64, out: &mut [u64]) -> u64
     requires { ⌜ Sound (now ram) (now ledger) ⌝ }
-    ensures { λ r. ⌜ r ≡ status 3 (length (now (out .entry))) ⌝ }
-    ensures { λ r. ⌜ now (out .exit) ≡ told 3 (frame-numbers (frame-told (state-of (now (ram .entry)) (now (ledger .entry))) f)) (now (out .entry)) ⌝ }
+    ensures { λ r. ⌜ Tells frame-numbers (frame-answer (frame-told (state-of (now (ram .entry)) (now (ledger .entry))) frame))
+        (now (out .entry)) r (now (out .exit)) ⌝ }
 {
-    c_numbers::tell_frame(out, asking::what_frame(ram, ledger, f))
+    c_answers::tell_frame(out, monitor_query::what_frame(ram, ledger, frame))
 }
 
-// What of frame f is shared with guest h: 0 nothing, 1 reading, 2 writing too.
+// What of a frame is shared with a guest: 0 nothing, 1 reading, 2 writing too.
 #[no_mangle]
-pub extern "C" fn pageledger_shared_with(ram: &[u8], ledger: &[u32], f: u64, h: u64) -> u64
+pub extern "C" fn pageledger_shared_with(ram: &[u8], ledger: &[u32], frame: u64, guest: u64) -> u64
     requires { ⌜ Sound (now ram) (now ledger) ⌝ }
-    ensures { λ r. ⌜ r ≡ share-told (state-of (now (ram .entry)) (now (ledger .entry))) f h ⌝ }
+    ensures { λ r. ⌜ r ≡ share-told (state-of (now (ram .entry)) (now (ledger .entry))) frame guest ⌝ }
 {
-    asking::shared_with(ram, ledger, f, h)
+    monitor_query::shared_with(ram, ledger, frame, guest)
 }
 
-// What guest g is.
+// What a guest is.
 #[no_mangle]
-pub extern "C" fn pageledger_guest(ram: &[u8], ledger: &[u32], g: u64, out: &mut [u64]) -> u64
+pub extern "C" fn pageledger_guest(ram: &[u8], ledger: &[u32], guest: u64, out: &mut [u64]) -> u64
     requires { ⌜ Sound (now ram) (now ledger) ⌝ }
-    ensures { λ r. ⌜ r ≡ status 3 (length (now (out .entry))) ⌝ }
-    ensures { λ r. ⌜ now (out .exit) ≡ told 3 (guest-numbers (guest-told (state-of (now (ram .entry)) (now (ledger .entry))) g)) (now (out .entry)) ⌝ }
+    ensures { λ r. ⌜ Tells guest-numbers (guest-answer (guest-told (state-of (now (ram .entry)) (now (ledger .entry))) guest))
+        (now (out .entry)) r (now (out .exit)) ⌝ }
 {
-    c_numbers::tell_guest(out, asking::what_guest(ram, ledger, g))
+    c_answers::tell_guest(out, monitor_query::what_guest(ram, ledger, guest))
 }
 
-// Stage 2 alone from guest g's root: `access` is 0 to read, 1 to write, 2 to execute.
+// Stage 2 alone from a guest's root: `access` is 0 to read, 1 to write, 2 to execute.
 #[no_mangle]
 pub extern "C" fn pageledger_translation(
     ram: &[u8],
     ledger: &[u32],
-    g: u64,
+    guest: u64,
     ipa: u64,
     access: u64,
     out: &mut [u64],
 ) -> u64
     requires { ⌜ Sound (now ram) (now ledger) ⌝ }
-    ensures { λ r. ⌜ r ≡ status 7 (length (now (out .entry))) ⌝ }
-    ensures { λ r. ⌜ now (out .exit) ≡ told 7 (numbers (translated (now (ram .entry)) (now (ledger .entry)) g ipa access)) (now (out .entry)) ⌝ }
+    ensures { λ r. ⌜ Tells answer-numbers (walk-answer (translated (now (ram .entry)) (now (ledger .entry)) guest ipa access))
+        (now (out .entry)) r (now (out .exit)) ⌝ }
 {
-    c_numbers::tell(out, asking::translation(ram, ledger, g, ipa, access))
+    c_answers::tell_walk(
+        out,
+        monitor_query::translation(ram, ledger, guest, ipa, access),
+    )
 }

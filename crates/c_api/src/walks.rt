@@ -1,9 +1,8 @@
 // Document 01: the walk, on any bytes.
-ghost use mathlib.Core.Path.{_≡_};
-ghost use lib.ListN.{length};
 ghost use Rattle.walk.specs.Both.{answer-2, answer as answer·of};
-ghost use Rattle.c_numbers.specs.Answer.{numbers, status, told};
-use c_numbers;
+ghost use Rattle.c_answers.specs.Numbers.{answer-numbers};
+ghost use Rattle.c_answers.specs.Answers.{walk-answer, Tells};
+use c_answers;
 
 // Stage 2 alone: `access` is 0 to read, 1 to write, 2 to execute.
 #[no_mangle]
@@ -16,10 +15,10 @@ pub extern "C" fn pageledger_stage2(
     access: u64,
     out: &mut [u64],
 ) -> u64
-    ensures { λ r. ⌜ r ≡ status 7 (length (now (out .entry))) ⌝ }
-    ensures { λ r. ⌜ now (out .exit) ≡ told 7 (numbers (answer-2 (now (ram .entry)) base frames root ipa access)) (now (out .entry)) ⌝ }
+    ensures { λ r. ⌜ Tells answer-numbers (walk-answer (answer-2 (now (ram .entry)) base frames root ipa access))
+        (now (out .entry)) r (now (out .exit)) ⌝ }
 {
-    c_numbers::tell(out, walk::stage2(ram, base, frames, root, ipa, access))
+    c_answers::tell_walk(out, walk::stage2(ram, base, frames, root, ipa, access))
 }
 
 // Both stages: `el` is 0 for EL0, 1 for EL1.
@@ -35,10 +34,10 @@ pub extern "C" fn pageledger_both_stages(
     el: u64,
     out: &mut [u64],
 ) -> u64
-    ensures { λ r. ⌜ r ≡ status 7 (length (now (out .entry))) ⌝ }
-    ensures { λ r. ⌜ now (out .exit) ≡ told 7 (numbers (answer·of (now (ram .entry)) base frames root1 root2 va access el)) (now (out .entry)) ⌝ }
+    ensures { λ r. ⌜ Tells answer-numbers (walk-answer (answer·of (now (ram .entry)) base frames root1 root2 va access el))
+        (now (out .entry)) r (now (out .exit)) ⌝ }
 {
-    c_numbers::tell(
+    c_answers::tell_walk(
         out,
         walk::both_stages(ram, base, frames, root1, root2, va, access, el),
     )

@@ -1,24 +1,25 @@
 -- The hypotheses on two computers can be met: whatever happens to the two slices of one can happen to those of another beside it.
 use mathlib.Core.Path.{_≡_, refl, sym, _∙_, subst}
-use mathlib.Core.Bool.{Bool, true, false}
+use mathlib.Core.Bool.{true, false}
 use mathlib.Core.Logic.{_⊎_, inl, inr}
 use mathlib.Core.Option.{some}
 use Prim.Native.Nat.{ℕ}
-use Rattle.model.specs.Base.{eq?, bool?}
+use Rattle.model.proofs.Laws.Base.{eq?, bool?}
 use Rattle.model.specs.Operations.{done}
 use Rattle.model.specs.Machine as M
-use Rattle.two_runs.specs.Theorems.TwoRunsTerms.{shown}
-use Rattle.two_runs.specs.Theorems.ApartTerms as T
-use Rattle.two_runs.specs.Invariant.ApartSteps.{shown-role}
-use Rattle.two_runs.specs.Invariant.ApartRuns.{Seen, step-apart, start-seen}
-use Rattle.two_runs.specs.Invariant.Beside.{itself, match-itself}
+use Rattle.model_noninterference.specs.TwoRunsTerms.{shown}
+use Rattle.model_noninterference.specs.ApartTerms as T
+use Rattle.model_noninterference.proofs.Invariant.ApartSteps.{shown-role}
+use Rattle.model_noninterference.proofs.Invariant.ApartRuns.{Seen, step-apart, start-seen}
+use Rattle.model_noninterference.proofs.Invariant.Beside.{itself, match-itself}
 use Rattle.ledger.specs.Layout.{pick-of}
-use Rattle.isolation.specs.Calls.{Call, defined-is}
-use Rattle.isolation.specs.Slices as S
-use Rattle.isolation.specs.Slices.{Slices, machine, Called, Stored, called, stored, Begun}
-use Rattle.isolation.specs.Steps.{Fit, step-fits}
-use Rattle.isolation.specs.Runs.{begun-is, begun-fits}
-use Rattle.isolation.specs.Answered.{done-at-0}
+use Rattle.isolation_runs.specs.Calls.{Call}
+use Rattle.isolation_runs.proofs.Laws.Calls.{defined-is}
+use Rattle.isolation_runs.specs.Coarse as S
+use Rattle.isolation_runs.specs.Coarse.{Slices, machine, Called, Stored, called, stored, Begun}
+use Rattle.isolation_runs.proofs.Coarse.Steps.{Fit, step-fits}
+use Rattle.isolation_runs.proofs.Coarse.Runs.{begun-is, begun-fits}
+use Rattle.isolation_runs.proofs.Laws.Answered.{done-at-0}
 use Rattle.isolation.specs.TwoComputers.{state, asked, first-calls, second-calls, both-call, first-stores, second-stores, both-store, Runs-apart, stop, then, apart-is}
 
 abbrev Beside : (g : ℕ) → T.Frames → Slices → Slices → Type 1

@@ -1,85 +1,95 @@
--- The third demand on one page. A step is an operation with any numbers, answered or refused, or a guest's store of a byte (Machine, Step); a run is any list of steps (Machine, Run);
--- SetUp is the machine right after set-up, with any contents of RAM. A guest reaches the byte at physical address a for an access where its tables, or anything that the processor
--- may have kept since the last report of an invalidation, lead there with that right (Cache, Reach). The words stand in crate model; each theorem has a file of its own in Theorems of crate model, moments or two_runs, with its proof.
--- These are about the model's machine. The two slices that the code works on are such a machine (Runs), and the same is said of them, in the ledger's words, in OnSlices, Contents and TwoComputers.
+-- Demand 3 on one page, of the two slices that the code works on. x is what they are right after a set-up that was answered 0, with
+-- nothing kept (Begun); y is what they are after any steps (Run): calls with any numbers, answered or refused; stores of guests where
+-- they reach for writing; stores of the host where no table is; and the processor looks, before and after every single store, and keeps
+-- any part of what it finds (crate isolation_runs, Slices). The words are in Terms of that crate; each theorem has a file here, with its
+-- sentence.
 use mathlib.Core.Path.{_≡_}
-use mathlib.Core.Bool.{true, false}
-use mathlib.Core.Logic.{_⊎_, _↔_}
-use Prim.Native.Nat.{ℕ, _+_, _<_, _/_, _%_}
-use Rattle.model.specs.State.{State, Kind, page, table, byte}
-use Rattle.model.specs.Operations.{done, create}
+use mathlib.Core.Bool.{false}
+use mathlib.Core.Logic.{_⊎_}
+use Prim.Native.Nat.{ℕ, _+_, _*_, _<_, _/_}
+use lib.ListN.{getD}
+use Rattle.model.specs.State.{Frame-kind, page, table}
+use Rattle.model.specs.Translate.{upper}
 use Rattle.model.specs.Cache.{Access}
-use Rattle.model.specs.Machine.{Machine, SetUp, Run, Step, Operation, Create, answer, Chooses, call, Reaches}
-use Rattle.moments.specs.Moments.{stores-of, Safe, Throughout, FineRun}
-use Rattle.model.specs.Theorems.Terms.{lends, Allowed, Handed, Laid}
-use Rattle.model.specs.Theorems.Reach as R
-use Rattle.model.specs.Theorems.TwoGuests as T
-use Rattle.model.specs.Theorems.Writing as W
-use Rattle.model.specs.Theorems.Private as P
-use Rattle.model.specs.Theorems.ChangesHands as H
-use Rattle.model.specs.Theorems.BecomesTable as B
-use Rattle.model.specs.Theorems.TakingOut as O
-use Rattle.model.specs.Theorems.NewGuest as N
-use Rattle.model.specs.Theorems.Contents as C
-use Rattle.moments.specs.Theorems.Moments as M
-use Rattle.moments.specs.Theorems.Finely as F
-use Rattle.two_runs.specs.Theorems.TwoRunsTerms.{Two-runs, Same-start}
-use Rattle.two_runs.specs.Theorems.TwoRuns as S
-use Rattle.two_runs.specs.Theorems.ApartTerms.{Frames, Runs-apart, no-frames, Reads}
-use Rattle.two_runs.specs.Theorems.TwoRunsApart as A
+use Rattle.ledger.specs.Layout.{size-of, kind-of, count-of, dirty-of}
+use Rattle.isolation_runs.specs.Calls.{Call, Create}
+use Rattle.isolation_runs.specs.Slices.{Slices, Reaches, Called, Step, Run, Begun}
+use Rattle.isolation_runs.specs.Terms.{In, Uses, Allowed, Hidden, Unreached, Handed, Laid, Finds, Finds-height, Finds-table, Nothing-kept, Written}
+use Rattle.isolation.specs.Reach as R
+use Rattle.isolation.specs.TwoGuests as T
+use Rattle.isolation.specs.BeyondShared as W
+use Rattle.isolation.specs.Hidden as P
+use Rattle.isolation.specs.ChangesHands as H
+use Rattle.isolation.specs.BecomesTable as B
+use Rattle.isolation.specs.TakenOut as O
+use Rattle.isolation.specs.NewGuest as N
+use Rattle.isolation.specs.Integrity as I
+use Rattle.isolation.specs.OneTranslation as E
 
-module _ {m z : Machine} (set-up : SetUp m) (run : Run m z) where
-  -- What g reaches is its own page, or a page shared with it for that access, or a frame that drains for it; so never the ledger, which is outside RAM.
-  reach : (g : ℕ) (w : Access) (a : ℕ) → Reaches z g w a → (f : ℕ) × (a / 4096 ≡ z .state .first + f) × (f < z .state .size) × Allowed (z .state) g f w
-  reach = R.reach set-up run
+module _ {x y : Slices} (begun : Begun x) (run : Run x y) where
+  -- What g reaches is its own page, or a page shared with it for that access, or a frame that drains for it.
+  reach : (g : ℕ) (w : Access) (a : ℕ) → Reaches y g w a →
+      (f : ℕ) × In y a f × (f < size-of (y .ledger)) × Allowed y g f w
+  reach = R.reach begun run
 
   -- "no page can be reached by two guests unless its owner shared it"
-  two-guests : (g h : ℕ) (w w′ : Access) (a f : ℕ) → (g ≡ h → ⊥) → a / 4096 ≡ z .state .first + f → Reaches z g w a → Reaches z h w′ a →
-      (o : ℕ) × (z .state .kind f ≡ page o) × ((o ≡ g) ⊎ (lends (z .state .shared f g) w ≡ true)) × ((o ≡ h) ⊎ (lends (z .state .shared f h) w′ ≡ true))
-  two-guests = T.two-guests set-up run
+  two-guests : (g h : ℕ) (w w′ : Access) (a a′ f : ℕ) → (g ≡ h → ⊥) → In y a f → In y a′ f →
+      Reaches y g w a → Reaches y h w′ a′ →
+      (o : ℕ) × (kind-of (y .ledger) f ≡ page o) × Uses y o g f w × Uses y o h f w′
+  two-guests = T.two-guests begun run
 
   -- "none is written beyond what was shared", nor read, nor executed
-  beyond-shared : (g o f : ℕ) (w : Access) (a : ℕ) → z .state .kind f ≡ page o → a / 4096 ≡ z .state .first + f → Reaches z g w a → (o ≡ g) ⊎ (lends (z .state .shared f g) w ≡ true)
-  beyond-shared = W.beyond-shared set-up run
+  beyond-shared : (o g f : ℕ) (w : Access) (a : ℕ) → kind-of (y .ledger) f ≡ page o → In y a f →
+      Reaches y g w a → Uses y o g f w
+  beyond-shared = W.beyond-shared begun run
 
   -- "no guest reaches a table", nor a frame of the monitor, nor a free one
-  hidden : (f : ℕ) (x : Kind) → z .state .kind f ≡ x → P.Hidden x → (g : ℕ) (w : Access) (a : ℕ) → a / 4096 ≡ z .state .first + f → Reaches z g w a → ⊥
-  hidden = P.hidden set-up run
+  hidden : (f : ℕ) (k : Frame-kind) → kind-of (y .ledger) f ≡ k → Hidden k → Unreached y f
+  hidden = P.hidden begun run
 
   -- "a page changes hands only when no cache can lead to it and its contents are gone"
-  changes-hands : {z′ : Machine} → Step z z′ → (f g : ℕ) → (z .state .kind f ≡ page g → ⊥) → z′ .state .kind f ≡ page g → Handed z z′ f
-  changes-hands = H.hands set-up run
+  changes-hands : {z : Slices} → Step y z → (f g : ℕ) →
+      (kind-of (y .ledger) f ≡ page g → ⊥) → kind-of (z .ledger) f ≡ page g → Handed y z f
+  changes-hands = H.changes-hands begun run
 
   -- the same of a frame that becomes a table
-  becomes-table : {z′ : Machine} → Step z z′ → (f g h p : ℕ) → (z .state .kind f ≡ table g h p → ⊥) → z′ .state .kind f ≡ table g h p → Laid z z′ f
-  becomes-table = B.table-made set-up run
+  becomes-table : {z : Slices} → Step y z → (f g h p : ℕ) →
+      (kind-of (y .ledger) f ≡ table g h p → ⊥) → kind-of (z .ledger) f ≡ table g h p → Laid y z f
+  becomes-table = B.becomes-table begun run
 
-  -- a guest that is not dirty, and of which nothing is counted for f, reaches no byte of f: taking out is complete
-  taken-out : (f g : ℕ) → z .state .count f g ≡ 0 → z .state .dirty g ≡ false → (w : Access) (a : ℕ) → a / 4096 ≡ z .state .first + f → Reaches z g w a → ⊥
-  taken-out = O.no-cache set-up run
+  -- a guest that is not dirty, and for which nothing of f is counted, reaches no byte of f: taking out is complete
+  taken-out : (f g : ℕ) → count-of (y .ledger) f g ≡ 0 → dirty-of (y .ledger) g ≡ false →
+      (w : Access) (a : ℕ) → In y a f → Reaches y g w a → ⊥
+  taken-out = O.taken-out begun run
 
-  -- a guest that is created reaches nothing, whoever had its number before
-  new-guest : (g : ℕ) (pick : ℕ → ℕ) (s′ : State) → create (z .state) g pick ≡ done s′ → (w : Access) (a : ℕ) → Reaches (call z (Create g pick)) g w a → ⊥
-  new-guest = N.nothing-yet set-up run
+  -- when a guest is created nothing is kept for its number, and it reaches nothing, whoever had the number before
+  nothing-kept : (z : Slices) (g : ℕ) → Called (Create g) 0 y z → Nothing-kept y g
+  nothing-kept = N.nothing-kept begun run
 
-  -- contents: no operation changes a byte of a page that stays with its guest
-  contents : (o : Operation) → Chooses (z .state) o → (s′ : State) → answer (z .state) o ≡ done s′ → (f : ℕ) (x : Kind) → z .state .kind f ≡ x → C.Held x → (i : ℕ) → byte s′ f i ≡ byte (z .state) f i
-  contents = C.contents set-up run
+  new-guest : (z : Slices) (g : ℕ) → Called (Create g) 0 y z → (w : Access) (a : ℕ) → Reaches z g w a → ⊥
+  new-guest = N.new-guest begun run
 
-  -- inside an operation, after each single store, each guest reaches only what it was allowed to before
-  moments : (o : Operation) → Chooses (z .state) o → (s′ : State) → answer (z .state) o ≡ done s′ → Throughout (z .state) (Safe (z .state)) (z .caches) (z .state .word) (stores-of (z .state) o)
-  moments = M.moments set-up run
+  -- contents: no call changes a byte of a page that stays with its guest
+  contents : {z : Slices} (c : Call) (r : ℕ) → Called c r y z →
+      (f : ℕ) (k : Frame-kind) → kind-of (y .ledger) f ≡ k → I.Held k → f < size-of (y .ledger) →
+      (o : ℕ) → o < 4096 → getD (z .ram) (f * 4096 + o) 0 ≡ getD (y .ram) (f * 4096 + o) 0
+  contents = I.contents begun run
 
--- and all of it with the processor looking, and keeping what it finds, after every single store
-reach-finely : {m z : Machine} → SetUp m → FineRun m z → (g : ℕ) (w : Access) (a : ℕ) → Reaches z g w a →
-    (f : ℕ) × (a / 4096 ≡ z .state .first + f) × (f < z .state .size) × Allowed (z .state) g f w
-reach-finely = F.reach-finely
+  -- integrity: a byte of a page changes only by a store of a guest that may write the page, or of the host
+  integrity : {z : Slices} (s : Step y z) (f p : ℕ) → kind-of (y .ledger) f ≡ page p → f < size-of (y .ledger) →
+      (o : ℕ) → o < 4096 → (getD (z .ram) (f * 4096 + o) 0 ≡ getD (y .ram) (f * 4096 + o) 0) ⊎ Written s f
+  integrity = I.integrity begun run
 
--- "What one guest can read depends on nothing another does, but for pages shared on purpose": the same operations in both runs, any other stores (TwoRunsTerms, Together)
-same-bytes : {g : ℕ} {y z y′ z′ : Machine} → Same-start y z → Two-runs g y z y′ z′ → (w : Access) (a f : ℕ) → a / 4096 ≡ y′ .state .first + f → Reaches y′ g w a →
-    byte (y′ .state) f (a % 4096) ≡ byte (z′ .state) f (a % 4096)
-same-bytes = S.same-bytes
+  -- a page of a guest never has two translations (page of physical memory, rights, height), by the tables or by what was kept
+  one-translation : (g v p r p′ r′ : ℕ) → Finds y g v p r → Finds y g v p′ r′ → (p ≡ p′) × (r ≡ r′)
+  one-translation = E.one-translation begun run
 
--- and where the others also ask for other operations (ApartTerms, Apart): what g reads at each of its pages, by the tables or by anything kept
-same-reads : {g : ℕ} {R : Frames} {y z y′ z′ : Machine} → SetUp y → SetUp z → Runs-apart g no-frames y z R y′ z′ → (v r : ℕ) (bytes : ℕ → ℕ) → Reads y′ g v r bytes ↔ Reads z′ g v r bytes
-same-reads = A.same-reads
+  one-height : (g v l l′ : ℕ) → Finds-height y g v l → Finds-height y g v l′ → l ≡ l′
+  one-height = E.one-height begun run
+
+  -- nor has a range of a guest two tables, nor a table and a block
+  one-table : (g h q p p′ : ℕ) → Finds-table y g h q p → Finds-table y g h q p′ → p ≡ p′
+  one-table = E.one-table begun run
+
+  table-or-block : (g h p v l : ℕ) → Finds-table y g h (upper h v / 512) p → h < l → Finds-height y g v l → ⊥
+  table-or-block = E.table-or-block begun run

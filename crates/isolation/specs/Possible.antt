@@ -1,45 +1,52 @@
--- The steps are not empty: where a guest reaches a byte for writing, there is the step in which it stores there; and where a function has answered, there is the step of its call.
-use mathlib.Core.Path.{_≡_, refl}
-use mathlib.Core.Bool.{true}
+-- The steps can be made: where a guest reaches a byte for writing it can store there; the host can load a byte where no table is; and
+-- where a
+-- function has answered, there is the step of its call, whatever the processor had kept: the operation's stores are a path of moves.
+use mathlib.Core.Path.{_≡_, refl, sym, _∙_, ap, subst}
 use mathlib.Core.Logic.{inl, inr}
 use mathlib.Core.List.{List}
 use Prim.Native.Nat.{ℕ, _+_, _*_, _<_}
 use native.Mathlib.Omega.{arith}
 use lib.ListN.{length, getD, set}
 use lib.Seq.{getD-set-same, getD-set-other}
-use Rattle.model.specs.Base.{eq?}
-use Rattle.model.specs.Cache.{grown, writing, Reach}
-use Rattle.ledger.specs.Layout.{size-of, first-of, exists-of, state-of}
+use Rattle.model.proofs.Laws.Base.{eq?}
+use Rattle.model.specs.Cache.{writing}
+use Rattle.ledger.specs.Layout.{size-of, first-of, state-of}
 use Rattle.ledger.specs.Sound.{Sound}
 use Rattle.monitor.specs.Answers.{Answers}
-use Rattle.isolation.specs.Calls.{Call, defined}
-use Rattle.isolation.specs.Slices.{Slices, kept-after, Called, Stored, Step, called, stored}
+use Rattle.isolation_runs.specs.Calls.{Call, defined}
+use Rattle.isolation_runs.specs.Slices.{Slices, Reaches, Byte, Beside, Step, called, stored, loaded-byte, Run, Begun}
+use Rattle.isolation_runs.proofs.Laws.Runs.{always-fits, always-sound}
+use Rattle.isolation_runs.proofs.Laws.Possible.{still-bytes, call-goes}
 
-still-bytes : (m : List ℕ) (at b : ℕ) → at < length m → b < 256 → ((i : ℕ) → getD m i 0 < 256) → (i : ℕ) → getD (set m at b) i 0 < 256
-still-bytes m at b room small h i = elim (eq? i at) [
-  | inl e ↦ rw e (rw (getD-set-same m at b 0 room) small)
-  | inr e ↦ rw (getD-set-other m at i b 0 e) (h i)
-]
+module _ {x y : Slices} (begun : Begun x) (run : Run x y) where
+  -- the slices with byte o of frame f stored
+  with-byte : (f o b : ℕ) → f < size-of (y .ledger) → o < 4096 → b < 256 →
+      (z : Slices) × Byte f o b y z × (getD (z .ram) (f * 4096 + o) 0 ≡ b)
+  with-byte f o b low inside small = (
+    record {
+      ram = set (y .ram) (f * 4096 + o) b;
+      ledger = y .ledger;
+      bytes = still-bytes (y .ram) (f * 4096 + o) b room small (y .bytes);
+      caches = y .caches;
+    },
+    record { in-ram = low; in-frame = inside; is-byte = small; ram-after = refl; ledger-after = refl; caches-after = refl },
+    getD-set-same (y .ram) (f * 4096 + o) b 0 room,
+  )
+    where
+      room : f * 4096 + o < length (y .ram)
+      room = let a = always-sound begun run .ram-fits in omega arith
 
-pub can-store : (x : Slices) → Sound (x .ram) (x .ledger) → (g f o b : ℕ) → exists-of (x .ledger) g ≡ true → f < size-of (x .ledger) → o < 4096 → b < 256 →
-    Reach (state-of (x .ram) (x .ledger)) (x .caches) g writing ((first-of (x .ledger) + f) * 4096 + o) → (y : Slices) × Step x y × (getD (y .ram) (f * 4096 + o) 0 ≡ b)
-can-store x ok g f o b there low inside small reach = (after, stored g f o b step, getD-set-same (x .ram) (f * 4096 + o) b 0 room)
-  where
-    room : f * 4096 + o < length (x .ram)
-    room = let a = ok .ram-fits in omega arith
+  pub can-store : (g f o b : ℕ) → f < size-of (y .ledger) → o < 4096 → b < 256 →
+      Reaches y g writing ((first-of (y .ledger) + f) * 4096 + o) →
+      (z : Slices) × Step y z × (getD (z .ram) (f * 4096 + o) 0 ≡ b)
+  can-store g f o b low inside small r = let a = with-byte f o b low inside small in (a .0, stored g f o b (a .1) r, a .2)
 
-    after : Slices
-    after = record {
-      ram = set (x .ram) (f * 4096 + o) b;
-      ledger = x .ledger;
-      bytes = still-bytes (x .ram) (f * 4096 + o) b room small (x .bytes);
-      caches = grown (state-of (set (x .ram) (f * 4096 + o) b) (x .ledger)) (x .caches);
-    }
+  pub can-load : (f o b : ℕ) → f < size-of (y .ledger) → o < 4096 → b < 256 → Beside y f →
+      (z : Slices) × Step y z × (getD (z .ram) (f * 4096 + o) 0 ≡ b)
+  can-load f o b low inside small s = let a = with-byte f o b low inside small in (a .0, loaded-byte f o b (a .1) s, a .2)
 
-    step : Stored g f o b x after
-    step = record { lives = there; in-ram = low; in-frame = inside; is-byte = small; reaches = reach; ram-after = refl; ledger-after = refl; looks = refl }
-
-pub can-call : (x : Slices) (c : Call) (r : ℕ) (ram ledger : List ℕ) → ((i : ℕ) → getD ram i 0 < 256) → Answers (defined c) (x .ram) (x .ledger) r ram ledger →
-    (y : Slices) × Step x y × (y .ram ≡ ram) × (y .ledger ≡ ledger)
-can-call x c r ram ledger bytes a =
-    (record { ram = ram; ledger = ledger; bytes = bytes; caches = grown (state-of ram ledger) (kept-after c r (x .caches)) }, called c r (record { answers = a; looks = refl }), refl, refl)
+  pub can-call : (c : Call) (r : ℕ) (ram ledger : List ℕ) → ((i : ℕ) → getD ram i 0 < 256) →
+      Answers (defined c) (y .ram) (y .ledger) r ram ledger →
+      (z : Slices) × Step y z × (z .ram ≡ ram) × (z .ledger ≡ ledger)
+  can-call c r ram ledger bytes a =
+      let s = call-goes y (always-fits begun run) c r ram ledger bytes a in (s .0, called c r (s .1), s .2, s .3)

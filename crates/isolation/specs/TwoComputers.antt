@@ -2,22 +2,24 @@
 -- Two computers, each with its own two slices, set up with any numbers and any RAM. On each: any calls, and any guests' stores. The calls that concern g and are answered with 0 are the same on both,
 -- but for the numbers of frames (Matches); a byte that g may read is stored on both or on neither; everything else differs at will. What g reads at each of its pages is then the same on both.
 use mathlib.Core.Path.{_≡_, refl, sym, ap, _∙_, subst}
-use mathlib.Core.Bool.{Bool, true, false}
+use mathlib.Core.Bool.{true, false}
 use mathlib.Core.Logic.{_⊎_, inl, inr, _↔_}
 use Prim.Native.Nat.{ℕ}
 use Rattle.model.specs.State.{State}
-use Rattle.model.specs.Operations.{Out, refuse, done}
+use Rattle.model.specs.Operations.{Out}
 use Rattle.model.specs.Machine as M
-use Rattle.two_runs.specs.Theorems.TwoRunsTerms.{shown, Same-bytes, answered, Stores}
-use Rattle.two_runs.specs.Theorems.ApartTerms as T
-use Rattle.two_runs.specs.Theorems.TwoRunsApart as A
+use Rattle.model_noninterference.specs.TwoRunsTerms.{shown, Same-bytes, answered, Stores}
+use Rattle.model_noninterference.specs.ApartTerms as T
+use Rattle.model_theorems.specs.TwoRunsApart as A
 use Rattle.ledger.specs.Layout.{state-in, state-of, pick-of}
-use Rattle.isolation.specs.Calls.{Call, defined, in-model, defined-is}
-use Rattle.isolation.specs.Slices.{Slices, machine, Called, Stored, called, stored, Begun}
-use Rattle.isolation.specs.Slices as S
-use Rattle.isolation.specs.Steps.{Fit, after-call, after-store, chosen-so}
-use Rattle.isolation.specs.Runs.{run-fits, begun-is, begun-fits}
-use Rattle.isolation.specs.Answered.{done-at-0, unchanged-else}
+use Rattle.isolation_runs.proofs.Coarse.Joined.{joined}
+use Rattle.isolation_runs.specs.Calls.{Call, in-model}
+use Rattle.isolation_runs.proofs.Laws.Calls.{defined-is}
+use Rattle.isolation_runs.specs.Coarse.{Slices, machine, Called, Stored, called, stored, Begun}
+use Rattle.isolation_runs.specs.Coarse as S
+use Rattle.isolation_runs.proofs.Coarse.Steps.{Fit, after-call, after-store, chosen-so}
+use Rattle.isolation_runs.proofs.Coarse.Runs.{run-fits, begun-is, begun-fits}
+use Rattle.isolation_runs.proofs.Laws.Answered.{done-at-0, unchanged-else}
 
 -- the state of the slices, and the model's name for a call on them
 abbrev pub state : Slices → State
@@ -103,7 +105,7 @@ runs-are {g} hx hy (then s r) = T.then (apart-is g hx hy s) (runs-are (run-fits 
 -- The hypotheses: each half is a run as in all other theorems; and they can be met, see BesideItself.
 pub are-runs : {g : ℕ} {R R′ : T.Frames} {x y x′ y′ : Slices} → Runs-apart g R x y R′ x′ y′ → S.Run x x′ × S.Run y y′
 are-runs stop = (S.stop, S.stop)
-are-runs (then s r) = let more = are-runs r in (S.joined (firsts s) (more .0), S.joined (seconds s) (more .1))
+are-runs (then s r) = let more = are-runs r in (joined (firsts s) (more .0), joined (seconds s) (more .1))
 
 module _ {g : ℕ} {R : T.Frames} {x y x′ y′ : Slices} (first : Begun x) (second : Begun y) (runs : Runs-apart g T.no-frames x y R x′ y′) where
   in-the-model : T.Runs-apart g T.no-frames (machine x) (machine y) R (machine x′) (machine y′)

@@ -1,4 +1,4 @@
-// The third demand of the code: what the monitor's functions and the guests do to the two lent slices is a run of the model. All of it is in specs/.
+// The third demand, of the model and of the two lent slices that the code works on. All of it is in specs/.
 pub fn same(x: usize) -> usize {
     x
 }

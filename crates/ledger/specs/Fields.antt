@@ -2,10 +2,11 @@
 use mathlib.Core.Bool.{Bool}
 use Prim.Native.Nat.{ℕ}
 use Rattle.model.specs.Base.{upd, upd2}
-use Rattle.model.specs.State.{State, Kind}
+use Rattle.model.specs.State.{State, Frame-kind}
 use Rattle.model.specs.Changes.{zeros}
 
-unfoldable pub remade : State → (kind : ℕ → Kind) (shared count : ℕ → ℕ → ℕ) (exists : ℕ → Bool) (root : ℕ → ℕ) (dirty : ℕ → Bool) (word : ℕ → ℕ → ℕ) → State
+unfoldable pub remade : State → (kind : ℕ → Frame-kind) (shared count : ℕ → ℕ → ℕ) (exists : ℕ → Bool) (root : ℕ → ℕ) (dirty : ℕ → Bool)
+    (word : ℕ → ℕ → ℕ) → State
 remade s k sh c e r d w = record {
   size = s .size;
   first = s .first;
@@ -18,11 +19,11 @@ remade s k sh c e r d w = record {
   word = w;
 }
 
-unfoldable pub with-kind : (f : ℕ) → Kind → State → State
+unfoldable pub with-kind : (f : ℕ) → Frame-kind → State → State
 with-kind f k s = remade s (upd (s .kind) f k) (s .shared) (s .count) (s .exists) (s .root) (s .dirty) (s .word)
 
 -- what frame f is turned by φ: drained for a guest, or released
-unfoldable pub with-kind-by : (f : ℕ) → (Kind → Kind) → State → State
+unfoldable pub with-kind-by : (f : ℕ) → (Frame-kind → Frame-kind) → State → State
 with-kind-by f φ s = with-kind f (φ (s .kind f)) s
 
 -- both numbers of frame f's cell for guest g

@@ -1,65 +1,15 @@
 -- The free frames as a sparse set: a permutation D of the frames with its inverse P, of which the first `count` are the free ones.
 -- A frame that leaves or joins changes places with the last one inside or the first one outside.
-use mathlib.Core.Path.{_≡_, refl, sym, ap, _∙_}
-use mathlib.Core.Bool.{Bool, true, false, _&&_, cond}
-use mathlib.Core.Logic.{inl, inr}
-use Prim.Native.Nat.{ℕ, zero, suc, _-_, _≤_, _<_}
-use native.Mathlib.Omega.{arith}
+use mathlib.Core.Path.{_≡_}
+use Prim.Native.Nat.{ℕ, _-_, _≤_, _<_}
 use lib.Dec.{eqb, ltb}
-use borrow.Author.Tests.{lt-ltb, le-ltb, eqb-true}
-use Rattle.model.specs.Base.{lt?, sum, sum-cong, sum-none, sum-point}
+use Rattle.model.specs.State.{FREE}
 
--- K: what a frame is, 1 where it is free
-pub record FreeSet (n : ℕ) (K D P : ℕ → ℕ) (count : ℕ) : Type 0 where
+-- K: what a frame is, FREE where it is free
+pub record Free-set (n : ℕ) (K D P : ℕ → ℕ) (count : ℕ) : Type 0 where
   pub few : count ≤ n
   pub d-low : (i : ℕ) → i < n → D i < n
   pub p-low : (f : ℕ) → f < n → P f < n
   pub p-d : (i : ℕ) → i < n → P (D i) ≡ i
   pub d-p : (f : ℕ) → f < n → D (P f) ≡ f
-  pub in-set : (f : ℕ) → f < n → eqb (K f) 1 ≡ ltb (P f) count
-
--- The set has as many frames as are free.
-module _ (n : ℕ) (K D P : ℕ → ℕ) (count : ℕ) (s : FreeSet n K D P count) where
-  abbrev among : ℕ → ℕ → ℕ
-  among c f = cond (ltb f n && ltb (P f) c) 1 0
-
-  same : (c j : ℕ) → (j ≡ D c → ⊥) → among c j ≡ among (suc c) j
-  same c j ne = elim (lt? j n) [
-    | inr l ↦ rw (le-ltb j n l)
-    | inl l ↦ elim (lt? (P j) c) [
-      | inl a ↦ rw (lt-ltb j n l, lt-ltb (P j) c a, lt-ltb (P j) (suc c) (omega arith))
-      | inr a ↦ rw (lt-ltb j n l, le-ltb (P j) c a, le-ltb (P j) (suc c) (past (P j) c a (λ e. ne (sym (s .d-p j l) ∙ ap D e))))
-    ]
-  ]
-    where
-      past : (x c : ℕ) → c ≤ x → (x ≡ c → ⊥) → suc c ≤ x
-      past x c a e = elim (lt? x (suc c)) [ inl b ↦ absurd (e (omega arith)) | inr b ↦ b ]
-
-  counted : (c : ℕ) → c ≤ n → sum n (among c) ≡ c
-  counted zero l = sum-none n (among 0) (λ f. rw (le-ltb (P f) 0 (omega arith)) (nobody (ltb f n)))
-    where
-      nobody : (b : Bool) → _≡_ {A = ℕ} (cond (b && false) 1 0) 0
-      nobody true = refl
-      nobody false = refl
-  counted (suc c) l =
-      let before = counted c (omega arith) in
-      let low = s .d-low c (omega arith) in
-      let at : P (D c) ≡ c = s .p-d c (omega arith) in
-      let one : among (suc c) (D c) ≡ 1 = rw (lt-ltb (D c) n low, lt-ltb (P (D c)) (suc c) (omega arith)) in
-      let none : among c (D c) ≡ 0 = rw (lt-ltb (D c) n low, le-ltb (P (D c)) c (omega arith)) in
-      let step = sum-point n (among c) (among (suc c)) (D c) low (same c) in
-      omega arith
-
-  pub free-number : sum n (λ f. cond (eqb (K f) 1) 1 0) ≡ count
-  free-number = sum-cong n (λ f. cond (eqb (K f) 1) 1 0) (among count) (λ f l. rw (s .in-set f l, lt-ltb f n l)) ∙ counted count (s .few)
-
-  -- the frame at a place inside is free
-  pub free-at : (i : ℕ) → i < count → (D i < n) × (K (D i) ≡ 1)
-  free-at i l =
-      let few = s .few in
-      let low = s .d-low i (omega arith) in
-      let at = s .p-d i (omega arith) in
-      (low, eqb-true (K (D i)) 1 (s .in-set (D i) low ∙ lt-ltb (P (D i)) count (omega arith)))
-
-  pub once-at : (i j : ℕ) → i < n → j < n → D i ≡ D j → i ≡ j
-  once-at i j hi hj e = sym (s .p-d i hi) ∙ ap P e ∙ s .p-d j hj
+  pub in-set : (f : ℕ) → f < n → eqb (K f) FREE ≡ ltb (P f) count

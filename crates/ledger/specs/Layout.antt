@@ -1,80 +1,75 @@
 -- How document 03, section 1 lies in the lent ledger, a slice of 32-bit words in rows of 16 (64 bytes).
 -- Row 0 is the header, rows 1 to 8 are guests 1 to 8, row 9 + f is frame f. There is room for 8 guests and 2,097,152 frames.
---   header: 3 how many frames are free · 4 n · 5 and 6 b / 4096, its low 32 bits and the rest
---   guest:  0 whether it exists · 1 whether it is dirty · 2 its root table
---   frame:  0 what it is (kind-at) · 1 the guest · 2 a table's height · 3 the range that it serves, below 2^27
---           3 + g, for guest g: the number of places where g maps it, plus 2^30 times what is shared with g (0, 1 or 2)
---           12 the free set: the frame at a place, the free ones first · 13 the place of this frame
+-- The columns of each row, and what stands in them: Columns.
+use mathlib.Core.Path.{_≡_}
 use mathlib.Core.Bool.{Bool, cond}
 use mathlib.Core.List.{List}
 use Prim.Native.Nat.{ℕ, _+_, _*_, _-_, _≤_, _<_, _/_, _%_}
 use lib.Dec.{eqb, ltb}
 use lib.ListN.{length}
-use Rattle.memory.specs.Word.{wordAt}
-use Rattle.model.specs.State.{State, Kind, monitor, free, table, draining-table, page, draining-page, is-guest}
+use Rattle.memory.specs.Word.{word-at}
+use Rattle.model.specs.State.{FREE, TABLE, DRAINING-TABLE, PAGE, DRAINING-PAGE, State, Frame-kind, monitor, free, table, draining-table, page, draining-page, is-guest}
+use Rattle.ledger.specs.Columns.{ROW-WORDS, GUEST-ROWS, HEADER-WORDS, room-for-frames, WORD-LIMIT, HEADER, FREE-COUNT, FRAME-COUNT, FIRST-LOW, FIRST-HIGH, EXISTS, DIRTY, ROOT, YES, KIND, GUEST, HEIGHT, RANGE, CELLS, SHARE-UNIT, FRAME-AT, PLACE}
 use Rattle.ledger.specs.Cells.{cell}
 
-abbrev pub most-frames : ℕ
-most-frames = 2097152
-
 abbrev pub words-for : ℕ → ℕ
-words-for n = 144 + 16 * n
+words-for n = HEADER-WORDS + ROW-WORDS * n
 
 -- the row of frame f is there
 abbrev pub Row : List ℕ → ℕ → Type 0
-Row l f = (f < most-frames) × (144 + 16 * f + 16 ≤ length l)
+Row l f = (f < room-for-frames) × (HEADER-WORDS + ROW-WORDS * f + ROW-WORDS ≤ length l)
 
 abbrev pub frames : List ℕ → (column f : ℕ) → ℕ
-frames l = cell 144 most-frames l
+frames l = cell HEADER-WORDS room-for-frames l
 
 abbrev pub guest-rows : List ℕ → (column g : ℕ) → ℕ
-guest-rows l = cell 0 9 l
+guest-rows l = cell 0 GUEST-ROWS l
 
--- the numbers of what a frame is are those of model's `sort`
-unfoldable pub kind-at : (k g h p : ℕ) → Kind
+-- the numbers of what a frame is are those of model's kind-number
+unfoldable pub kind-at : (k g h p : ℕ) → Frame-kind
 kind-at k g h p =
-    cond (eqb k 1) free (
-    cond (eqb k 2) (table g h p) (
-    cond (eqb k 3) (draining-table g h p) (
-    cond (eqb k 4) (page g) (
-    cond (eqb k 5) (draining-page g) (
+    cond (eqb k FREE) free (
+    cond (eqb k TABLE) (table g h p) (
+    cond (eqb k DRAINING-TABLE) (draining-table g h p) (
+    cond (eqb k PAGE) (page g) (
+    cond (eqb k DRAINING-PAGE) (draining-page g) (
     monitor)))))
 
 -- What is read off the frames' rows F and the guests' rows G.
 unfoldable pub size-in : (G : ℕ → ℕ → ℕ) → ℕ
-size-in G = G 4 0
+size-in G = G FRAME-COUNT HEADER
 
 unfoldable pub first-in : (G : ℕ → ℕ → ℕ) → ℕ
-first-in G = G 5 0 + 4294967296 * G 6 0
+first-in G = G FIRST-LOW HEADER + WORD-LIMIT * G FIRST-HIGH HEADER
 
-unfoldable pub kind-in : (F G : ℕ → ℕ → ℕ) → ℕ → Kind
-kind-in F G f = cond (ltb f (size-in G)) (kind-at (F 0 f) (F 1 f) (F 2 f) (F 3 f)) monitor
+unfoldable pub kind-in : (F G : ℕ → ℕ → ℕ) → ℕ → Frame-kind
+kind-in F G f = cond (ltb f (size-in G)) (kind-at (F KIND f) (F GUEST f) (F HEIGHT f) (F RANGE f)) monitor
 
 unfoldable pub per-guest : (ℕ → ℕ) → (F : ℕ → ℕ → ℕ) → (f g : ℕ) → ℕ
-per-guest part F f g = cond (is-guest g) (part (F (3 + g) f)) 0
+per-guest part F f g = cond (is-guest g) (part (F (CELLS + g) f)) 0
 
 unfoldable pub share-part : ℕ → ℕ
-share-part x = x / 1073741824
+share-part x = x / SHARE-UNIT
 
 unfoldable pub count-part : ℕ → ℕ
-count-part x = x % 1073741824
+count-part x = x % SHARE-UNIT
 
 unfoldable pub exists-in : (G : ℕ → ℕ → ℕ) → ℕ → Bool
-exists-in G g = eqb (G 0 g) 1
+exists-in G g = eqb (G EXISTS g) YES
 
 unfoldable pub dirty-in : (G : ℕ → ℕ → ℕ) → ℕ → Bool
-dirty-in G g = eqb (G 1 g) 1
+dirty-in G g = eqb (G DIRTY g) YES
 
 unfoldable pub root-in : (G : ℕ → ℕ → ℕ) → ℕ → ℕ
-root-in G = G 2
+root-in G = G ROOT
 
 -- The free frames, in the order in which they are taken: from the last of them in the free set on. (Set-up puts the lowest there.)
 unfoldable pub pick-in : (F G : ℕ → ℕ → ℕ) → ℕ → ℕ
-pick-in F G i = F 12 (G 3 0 - 1 - i)
+pick-in F G i = F FRAME-AT (G FREE-COUNT HEADER - 1 - i)
 
 -- word i of frame f in RAM
 unfoldable pub word-of : List ℕ → (f i : ℕ) → ℕ
-word-of m f i = cond (ltb i 512) (wordAt m (f * 4096 + i * 8)) 0
+word-of m f i = cond (ltb i 512) (word-at m (f * 4096 + i * 8)) 0
 
 -- The state of the two slices.
 unfoldable pub state-in : (F G word : ℕ → ℕ → ℕ) → State
@@ -100,7 +95,7 @@ size-of l = size-in (guest-rows l)
 abbrev pub first-of : List ℕ → ℕ
 first-of l = first-in (guest-rows l)
 
-abbrev pub kind-of : List ℕ → ℕ → Kind
+abbrev pub kind-of : List ℕ → ℕ → Frame-kind
 kind-of l = kind-in (frames l) (guest-rows l)
 
 abbrev pub shared-of : List ℕ → (f g : ℕ) → ℕ
@@ -108,6 +103,10 @@ shared-of l = per-guest share-part (frames l)
 
 abbrev pub count-of : List ℕ → (f g : ℕ) → ℕ
 count-of l = per-guest count-part (frames l)
+
+-- x is the two numbers of frame f's cell for guest g
+abbrev pub Cell : List ℕ → (f g x : ℕ) → Type 0
+Cell l f g x = (x / SHARE-UNIT ≡ shared-of l f g) × (x % SHARE-UNIT ≡ count-of l f g) × (x < WORD-LIMIT)
 
 abbrev pub exists-of : List ℕ → ℕ → Bool
 exists-of l = exists-in (guest-rows l)

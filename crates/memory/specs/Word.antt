@@ -5,14 +5,14 @@ use mathlib.Core.List.{List}
 use lib.ListN.{getD, set}
 
 -- the number whose lowest byte is at `at`
-unfoldable pub wordAt : List ℕ → ℕ → ℕ
-wordAt m at =
+unfoldable pub word-at : List ℕ → ℕ → ℕ
+word-at m at =
     getD m at 0 + 256 * (getD m (at + 1) 0 + 256 * (getD m (at + 2) 0 + 256 * (getD m (at + 3) 0
     + 256 * (getD m (at + 4) 0 + 256 * (getD m (at + 5) 0 + 256 * (getD m (at + 6) 0 + 256 * getD m (at + 7) 0))))))
 
 -- m with the eight bytes of v from `at` on
-unfoldable pub storedAt : List ℕ → ℕ → ℕ → List ℕ
-storedAt m at v =
+unfoldable pub stored-at : List ℕ → ℕ → ℕ → List ℕ
+stored-at m at v =
     let m0 = set m at (v % 256) in
     let m1 = set m0 (at + 1) (v / 2 ^ 8 % 256) in
     let m2 = set m1 (at + 2) (v / 2 ^ 16 % 256) in
@@ -23,6 +23,6 @@ storedAt m at v =
     set m6 (at + 7) (v / 2 ^ 56 % 256)
 
 -- m with n zeros from `at` on
-unfoldable pub clearedAt : List ℕ → ℕ → ℕ → List ℕ
-clearedAt m at zero = m
-clearedAt m at (suc k) = set (clearedAt m at k) (at + k) 0
+unfoldable pub cleared-at : List ℕ → ℕ → ℕ → List ℕ
+cleared-at m at zero = m
+cleared-at m at (suc k) = set (cleared-at m at k) (at + k) 0

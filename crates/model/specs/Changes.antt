@@ -6,7 +6,7 @@ use Prim.Native.Nat.{ℕ, zero, suc, pred, _<_, _%_}
 use mathlib.Core.Path.{_≡_}
 use lib.Dec.{eqb}
 use Rattle.model.specs.Base.{upd, upd2}
-use Rattle.model.specs.State.{State, Kind, monitor, free, table, draining-table, page, draining-page, free-frames}
+use Rattle.model.specs.State.{State, Frame-kind, monitor, free, table, draining-table, page, draining-page, free-frames}
 use Rattle.model.specs.Entry.{table-entry, page-entry}
 use Rattle.model.specs.Translate.{Page, upper, index, entry-at, into, leaf, translate}
 
@@ -20,7 +20,7 @@ unfoldable pub zeros : ℕ → ℕ
 zeros i = 0
 
 -- frame f becomes k, with these words and shares
-unfoldable pub becomes : State → (f : ℕ) → Kind → (word shared : ℕ → ℕ → ℕ) → State
+unfoldable pub becomes : State → (f : ℕ) → Frame-kind → (word shared : ℕ → ℕ → ℕ) → State
 becomes s f k w sh = record {
   size = s .size;
   first = s .first;
@@ -115,7 +115,7 @@ unfoldable pub without-mapping : State → (g v : ℕ) → State
 without-mapping s g v = without-at s g v (leaf s g v) (translate s g v)
 
 -- destroy: g's tables and pages drain for g
-unfoldable pub drained : ℕ → Kind → Kind
+unfoldable pub drained : ℕ → Frame-kind → Frame-kind
 drained g monitor = monitor
 drained g free = free
 drained g (table h n p) = cond (eqb h g) (draining-table h n p) (table h n p)
@@ -138,7 +138,7 @@ without-guest s g = record {
 }
 
 -- invalidated: what drains for g is free
-unfoldable pub released : ℕ → Kind → Kind
+unfoldable pub released : ℕ → Frame-kind → Frame-kind
 released g monitor = monitor
 released g free = free
 released g (table h n p) = table h n p

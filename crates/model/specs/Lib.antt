@@ -1,4 +1,5 @@
--- Document 03: State to Machine are the definitions, Theorems what is proved of them; Invariant and the laws need no reading.
+-- Document 03 as definitions, to be read in this order; Terms has the words of the theorems (crate model_theorems), Invariant what every
+-- operation keeps. Laws of all of it stand in proofs/.
 pub mod Base
 pub mod State
 pub mod Entry
@@ -7,8 +8,6 @@ pub mod Changes
 pub mod Operations
 pub mod Cache
 pub mod Machine
-pub mod EntryLaws
 pub mod Bytes
+pub mod Terms
 pub mod Invariant
-pub mod Theorems
-pub mod WalkLaws

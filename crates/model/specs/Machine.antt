@@ -18,7 +18,7 @@ pub data Operation : Type 0 where
   Create : (g : ℕ) (pick : ℕ → ℕ) → Operation
   Give Take : (f g : ℕ) → Operation
   Map : (f g a r : ℕ) (pick : ℕ → ℕ) → Operation
-  Unmap : (g a : ℕ) → Operation
+  Unmap : (a g : ℕ) → Operation
   Share : (g f h w : ℕ) → Operation
   Unshare : (g f h : ℕ) → Operation
   Destroy Invalidated : (g : ℕ) → Operation
@@ -28,7 +28,7 @@ answer s (Create g pick) = create s g pick
 answer s (Give f g) = give s f g
 answer s (Take f g) = take s f g
 answer s (Map f g a r pick) = map s f g a r pick
-answer s (Unmap g a) = unmap s g a
+answer s (Unmap a g) = unmap s a g
 answer s (Share g f h w) = share s g f h w
 answer s (Unshare g f h) = unshare s g f h
 answer s (Destroy g) = destroy s g
@@ -40,7 +40,7 @@ Chooses s (Create g pick) = Choice s pick
 Chooses s (Give f g) = Unit {0}
 Chooses s (Take f g) = Unit {0}
 Chooses s (Map f g a r pick) = Choice s pick
-Chooses s (Unmap g a) = Unit {0}
+Chooses s (Unmap a g) = Unit {0}
 Chooses s (Share g f h w) = Unit {0}
 Chooses s (Unshare g f h) = Unit {0}
 Chooses s (Destroy g) = Unit {0}
@@ -52,7 +52,7 @@ keeps k (Create g pick) = k
 keeps k (Give f g) = k
 keeps k (Take f g) = k
 keeps k (Map f g a r pick) = k
-keeps k (Unmap g a) = k
+keeps k (Unmap a g) = k
 keeps k (Share g f h w) = k
 keeps k (Unshare g f h) = k
 keeps k (Destroy g) = k
@@ -85,11 +85,11 @@ pub data Run : Machine → Machine → Type 1 where
 
 -- right after set-up: nobody exists, and nothing was kept
 pub record SetUp (m : Machine) : Type 1 where
-  pub n : ℕ
   pub b : ℕ
+  pub n : ℕ
   pub k : ℕ
   pub word : ℕ → ℕ → ℕ
-  pub accepted : set-up true n b k word ≡ done (m .state)
+  pub accepted : set-up true b n k word ≡ done (m .state)
   pub fresh : m .caches ≡ nothing-kept
 
 -- what any number g, running or destroyed, can reach: the byte at physical address a

@@ -1,9 +1,10 @@
 -- What the tables say: the way of an address through a guest's tables, and what it comes to.
 -- Pages are numbered: the guest-physical address a lies in page a / 4096.
+use mathlib.Core.Path.{_≡_}
 use mathlib.Core.Bool.{Bool, true, false, cond}
 use mathlib.Core.Option.{Option, none, some}
 use Prim.Native.Nat.{ℕ, zero, suc, _/_, _%_}
-use Rattle.model.specs.State.{State}
+use Rattle.model.specs.State.{State, table}
 use Rattle.model.specs.Entry.{Entry, empty, to-table, to-page, other, entry}
 
 -- the number v of a page without its last h groups of nine bits
@@ -29,6 +30,10 @@ into (other x) stop next = stop
 unfoldable pub descend : State → (h t v : ℕ) → Option ℕ
 descend s zero t v = some t
 descend s (suc h) t v = into (entry-at s t (index (suc h) v)) none (λ t′. descend s h t′ v)
+
+-- at height h the way to v stands in the table of g that serves v
+abbrev pub At : State → (g h v t : ℕ) → Type 0
+At s g h v t = s .kind t ≡ table g h (upper (suc h) v)
 
 -- a frame and the rights
 abbrev pub Page : Type 0

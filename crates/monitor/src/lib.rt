@@ -2,12 +2,12 @@
 // An operation is a check, which only borrows, so that a refusal changes nothing; and then a doing, which cannot fail.
 pub mod start;
 
-pub use creating::create;
-pub use destroying::destroy;
-pub use invalidating::invalidated;
-pub use mapping::map;
-pub use pages::give;
-pub use pages::take;
-pub use sharing::share;
-pub use sharing::unshare;
-pub use unmapping::unmap;
+pub use monitor_create::create;
+pub use monitor_destroy::destroy;
+pub use monitor_give_take::give;
+pub use monitor_give_take::take;
+pub use monitor_invalidated::invalidated;
+pub use monitor_map::map;
+pub use monitor_share::share;
+pub use monitor_share::unshare;
+pub use monitor_unmap::unmap;

@@ -1,44 +1,44 @@
 // Set-up. It counts on nothing, and RAM it only looks at.
 ghost use mathlib.Core.Path.{_≡_};
+ghost use Prim.Native.Nat.{_≤_};
+ghost use Rattle.memory.specs.Ram.{most-frames};
 ghost use Rattle.model.specs.Operations.{refusal};
-ghost use Rattle.monitor.specs.SetUp.{setting-up, SetUp};
-use free_set::start;
+ghost use Rattle.monitor.specs.SetUp.{slices-fit, setting-up, SetUp};
+use ledger_free::start;
+use monitor_contract::refusals;
 
-fn check_set_up(ram: &[u8], ledger: &[u32], n: u64, b: u64, k: u64) -> u64
-    ensures { λ r. ⌜ r ≡ refusal (setting-up n b k (now (ram .entry)) (now (ledger .entry))) ⌝ }
+// The slices have the lengths that n asks for.
+fn slices_fit(ram: &[u8], ledger: &[u32], n: u64) -> bool
+    requires { ⌜ n ≤ most-frames ⌝ }
+    ensures { λ r. ⌜ r ≡ slices-fit n (now (ram .entry)) (now (ledger .entry)) ⌝ }
 {
-    if n < 16 {
-        return 4;
+    if ram.len() as u64 == n * memory::FRAME_BYTES {
+        return ledger.len() as u64 == ledger::words_for(n);
     }
-    if 65536 < n {
-        return 4;
+    false
+}
+
+fn check_set_up(ram: &[u8], ledger: &[u32], b: u64, n: u64, k: u64) -> u64
+    ensures { λ r. ⌜ r ≡ refusal (setting-up b n k (now (ram .entry)) (now (ledger .entry))) ⌝ }
+{
+    if memory::ram_fits(b, n) {
+        if k < n {
+            if slices_fit(ram, ledger, n) {
+                return refusals::DONE;
+            }
+        }
     }
-    if b % 4096 != 0 {
-        return 4;
-    }
-    if 0x1000000000000 - 4096 * n < b {
-        return 4;
-    }
-    if n <= k {
-        return 4;
-    }
-    if ram.len() as u64 != n * 4096 {
-        return 4;
-    }
-    if ledger.len() as u64 != 144 + 16 * n {
-        return 4;
-    }
-    0
+    refusals::NO_FRAME
 }
 
 // n frames from physical address b on, of which the first k are the monitor's.
-pub fn set_up(ram: &[u8], ledger: &mut [u32], n: u64, b: u64, k: u64) -> u64
-    ensures { λ r. ⌜ SetUp n b k (now (ram .entry)) (now (ledger .entry)) r (now (ledger .exit)) ⌝ }
+pub fn set_up(ram: &[u8], ledger: &mut [u32], b: u64, n: u64, k: u64) -> u64
+    ensures { λ r. ⌜ SetUp b n k (now (ram .entry)) (now (ledger .entry)) r (now (ledger .exit)) ⌝ }
 {
-    let refused = check_set_up(ram, ledger, n, b, k);
-    if refused != 0 {
+    let refused = check_set_up(ram, ledger, b, n, k);
+    if refused != refusals::DONE {
         return refused;
     }
-    start::lay_out(ledger, n, b, k);
-    0
+    start::lay_out(ledger, b, n, k);
+    refusals::DONE
 }

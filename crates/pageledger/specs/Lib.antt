@@ -1,2 +1,2 @@
 -- What is there between two bytes of input.
-pub mod Ready
+pub mod Progress

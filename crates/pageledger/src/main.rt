@@ -1,20 +1,37 @@
 // Runs a script: standard input to standard output.
 ghost use mathlib.Core.Path.{_≡_};
-ghost use Prim.Native.Nat.{_+_, _/_, _≤_};
+ghost use Prim.Native.Nat.{_+_, _≤_};
 ghost use lib.ListN.{length};
-ghost use Rattle.script.specs.Answers.{Room};
-ghost use Rattle.pageledger.specs.Ready.{Ready};
+ghost use Rattle.script.specs.LineAnswered.{room-for, Room};
+ghost use Rattle.pageledger.specs.Progress.{Progress-sound};
 use libc::STDIN_FILENO;
 use libc::STDOUT_FILENO;
-use machine::Machine;
+use script_machine::HEADER_WORDS;
+use script_machine::Machine;
+use script_machine::ROW_WORDS;
 
-// The machine, and how many bytes of the line and of the output are there.
-struct State {
+// The frames that a script can have.
+const FRAMES: usize = 1024;
+
+const RAM_BYTES: usize = FRAMES * memory::FRAME_BYTES as usize;
+
+const LEDGER_WORDS: usize = HEADER_WORDS as usize + ROW_WORDS as usize * FRAMES;
+
+// The output has room for what any line prints (room-for), and for as much that waits to be written.
+const RAM_PER_ROOM: usize = 16;
+
+const REPLY_BYTES: usize = 256;
+
+const OUT_BYTES: usize = 2 * (RAM_BYTES / RAM_PER_ROOM);
+
+// The machine, how many bytes of a line are gathered, and how many of the output are not written yet.
+struct Progress {
     machine: Machine,
-    line: usize,
-    out: usize,
+    gathered: usize,
+    pending: usize,
 }
 
+// Writes the first n bytes.
 fn write_out(out: &[u8], n: usize)
     requires { ⌜ n ≤ length (now out) ⌝ }
 {
@@ -22,11 +39,11 @@ fn write_out(out: &[u8], n: usize)
 }
 
 // Writes the output where there is no room for another answer, and says how much of it is left.
-fn flushed(out: &[u8], ram: &[u8], n: usize) -> usize
+fn flush_if_full(out: &[u8], ram: &[u8], n: usize) -> usize
     requires { ⌜ (n ≤ length (now out)) × (Room (length (now ram)) (length (now out))) ⌝ }
-    ensures { λ r. ⌜ r + (length (now (ram .entry)) / 16 + 256) ≤ length (now (out .entry)) ⌝ }
+    ensures { λ r. ⌜ r + room-for (length (now (ram .entry))) ≤ length (now (out .entry)) ⌝ }
 {
-    let room = ram.len() / 16 + 256;
+    let room = ram.len() / RAM_PER_ROOM + REPLY_BYTES;
     if n <= out.len() - room {
         return n;
     }
@@ -35,85 +52,94 @@ fn flushed(out: &[u8], ram: &[u8], n: usize) -> usize
 }
 
 // Answers the line that was gathered.
-fn end_line(s: State, line: &[u8], ram: &mut [u8], ledger: &mut [u32], out: &mut [u8]) -> State
-    requires { ⌜ Ready s (length (now line)) (now ram) (now ledger) (length (now out)) ⌝ }
-    ensures { λ r. ⌜ Ready r (length (now (line .entry))) (now (ram .exit)) (now (ledger .exit)) (length (now (out .entry))) ⌝ }
+fn end_line(
+    s: Progress,
+    line: &[u8],
+    ram: &mut [u8],
+    ledger: &mut [u32],
+    out: &mut [u8],
+) -> Progress
+    requires { ⌜ Progress-sound s (length (now line)) (now ram) (now ledger) (length (now out)) ⌝ }
+    ensures { λ r. ⌜ Progress-sound r (length (now (line .entry))) (now (ram .exit)) (now (ledger .exit)) (length (now (out .entry))) ⌝ }
 {
-    let n = s.line;
-    let at = s.out;
+    let n = s.gathered;
+    let at = s.pending;
     let done = script::answer_line(&line[..n], s.machine, ram, ledger, &mut out[at..]);
     let machine = done.machine;
-    State {
+    Progress {
         machine,
-        line: 0,
-        out: flushed(out, ram, at + done.printed),
+        gathered: 0,
+        pending: flush_if_full(out, ram, at + done.printed),
     }
 }
 
 // One byte more of a line. A line of 4,096 bytes or more stays one of 4,096.
-fn gather(s: State, line: &mut [u8], b: u8) -> State
-    requires { ⌜ s .line ≤ length (now line) ⌝ }
-    ensures { λ r. ⌜ (r .line ≤ length (now (line .entry))) × (r .machine ≡ s .machine) × (r .out ≡ s .out) ⌝ }
+fn gather_byte(s: Progress, line: &mut [u8], b: u8) -> Progress
+    requires { ⌜ s .gathered ≤ length (now line) ⌝ }
+    ensures { λ r. ⌜ (r .gathered ≤ length (now (line .entry))) × (r .machine ≡ s .machine) × (r .pending ≡ s .pending) ⌝ }
 {
-    let n = s.line;
+    let n = s.gathered;
     if n < line.len() {
         line[n] = b;
         let machine = s.machine;
-        return State {
+        return Progress {
             machine,
-            line: n + 1,
-            out: s.out,
+            gathered: n + 1,
+            pending: s.pending,
         };
     }
     s
 }
 
-fn take(
-    s: State,
+// The next byte of the input: a line's end, or one more of the line.
+fn take_byte(
+    s: Progress,
     b: u8,
     line: &mut [u8],
     ram: &mut [u8],
     ledger: &mut [u32],
     out: &mut [u8],
-) -> State
-    requires { ⌜ Ready s (length (now line)) (now ram) (now ledger) (length (now out)) ⌝ }
-    ensures { λ r. ⌜ Ready r (length (now (line .entry))) (now (ram .exit)) (now (ledger .exit)) (length (now (out .entry))) ⌝ }
+) -> Progress
+    requires { ⌜ Progress-sound s (length (now line)) (now ram) (now ledger) (length (now out)) ⌝ }
+    ensures { λ r. ⌜ Progress-sound r (length (now (line .entry))) (now (ram .exit)) (now (ledger .exit)) (length (now (out .entry))) ⌝ }
 {
     if b == b'\n' {
         return end_line(s, line, ram, ledger, out);
     }
-    gather(s, line, b)
+    gather_byte(s, line, b)
 }
 
-fn take_all(
-    s: State,
+// The bytes that one read of the input gave.
+fn take_bytes(
+    s: Progress,
     chunk: &[u8],
     line: &mut [u8],
     ram: &mut [u8],
     ledger: &mut [u32],
     out: &mut [u8],
-) -> State
-    requires { ⌜ Ready s (length (now line)) (now ram) (now ledger) (length (now out)) ⌝ }
-    ensures { λ r. ⌜ Ready r (length (now (line .entry))) (now (ram .exit)) (now (ledger .exit)) (length (now (out .entry))) ⌝ }
+) -> Progress
+    requires { ⌜ Progress-sound s (length (now line)) (now ram) (now ledger) (length (now out)) ⌝ }
+    ensures { λ r. ⌜ Progress-sound r (length (now (line .entry))) (now (ram .exit)) (now (ledger .exit)) (length (now (out .entry))) ⌝ }
 {
     let mut t = s;
     let mut i = 0;
     while i < chunk.len() {
-        t = take(t, chunk[i], line, ram, ledger, out);
+        t = take_byte(t, chunk[i], line, ram, ledger, out);
         i += 1;
     }
     t
 }
 
-// A proved loop has to end, and nothing says that the input does: the turns are counted down from a number that no run uses up.
-fn serve(line: &mut [u8], ram: &mut [u8], ledger: &mut [u32], out: &mut [u8]) -> State
+// Reads the input to its end. A proved loop has to end, and nothing says that the input does: the turns are counted down from a number
+// that no run uses up.
+fn read_input(line: &mut [u8], ram: &mut [u8], ledger: &mut [u32], out: &mut [u8]) -> Progress
     requires { ⌜ Room (length (now ram)) (length (now out)) ⌝ }
-    ensures { λ r. ⌜ Ready r (length (now (line .entry))) (now (ram .exit)) (now (ledger .exit)) (length (now (out .entry))) ⌝ }
+    ensures { λ r. ⌜ Progress-sound r (length (now (line .entry))) (now (ram .exit)) (now (ledger .exit)) (length (now (out .entry))) ⌝ }
 {
-    let mut s = State {
-        machine: machine::no_machine(),
-        line: 0,
-        out: 0,
+    let mut s = Progress {
+        machine: script_machine::no_machine(),
+        gathered: 0,
+        pending: 0,
     };
     let mut turns = u64::MAX;
     while 0 < turns {
@@ -122,30 +148,30 @@ fn serve(line: &mut [u8], ram: &mut [u8], ledger: &mut [u32], out: &mut [u8]) ->
         if got == 0 {
             return s;
         }
-        s = take_all(s, &chunk[..got], line, ram, ledger, out);
+        s = take_bytes(s, &chunk[..got], line, ram, ledger, out);
         turns -= 1;
     }
     s
 }
 
 // The last line may have no line end; where there is none, nothing is printed for it.
-fn finish(s: State, line: &[u8], ram: &mut [u8], ledger: &mut [u32], out: &mut [u8])
-    requires { ⌜ Ready s (length (now line)) (now ram) (now ledger) (length (now out)) ⌝ }
+fn finish(s: Progress, line: &[u8], ram: &mut [u8], ledger: &mut [u32], out: &mut [u8])
+    requires { ⌜ Progress-sound s (length (now line)) (now ram) (now ledger) (length (now out)) ⌝ }
 {
     let t = end_line(s, line, ram, ledger, out);
-    write_out(out, t.out);
+    write_out(out, t.pending);
 }
 
-fn run(ram: &mut [u8; 4194304], ledger: &mut [u32; 16528], out: &mut [u8; 524288]) {
+// Runs the script on lent memory.
+fn run(ram: &mut [u8; RAM_BYTES], ledger: &mut [u32; LEDGER_WORDS], out: &mut [u8; OUT_BYTES]) {
     let mut line = io::buffer();
-    let s = serve(&mut line, ram, ledger, out);
+    let s = read_input(&mut line, ram, ledger, out);
     finish(s, &line, ram, ledger, out);
 }
 
-// 1,024 frames, their ledger of 144 + 16 x 1,024 words, and an output that holds what two lines print.
 fn main() {
-    let mut ram = [0u8; 4194304];
-    let mut ledger = [0u32; 16528];
-    let mut out = [0u8; 524288];
+    let mut ram = [0u8; RAM_BYTES];
+    let mut ledger = [0u32; LEDGER_WORDS];
+    let mut out = [0u8; OUT_BYTES];
     run(&mut ram, &mut ledger, &mut out);
 }

@@ -1,3 +1,3 @@
 -- What is printed for a line, and what the line did.
-pub mod Line
-pub mod Answers
+pub mod Printed
+pub mod LineAnswered

@@ -2,19 +2,19 @@
 // It reads and writes nothing outside of the slices that it is lent.
 ghost use Prim.Native.Nat.{_≤_};
 ghost use lib.ListN.{length};
-ghost use Rattle.language.specs.Commands.{readOf};
-ghost use Rattle.machine.specs.Machine.{Kept};
-ghost use Rattle.script.specs.Answers.{Room, Answers};
+ghost use Rattle.script_language.specs.Commands.{read-line};
+ghost use Rattle.script_machine.specs.Machine.{Machine-sound};
+ghost use Rattle.script.specs.LineAnswered.{Room, Line-answered};
 
 mod print;
 
-use language::Command;
-use language::Read;
-use language::read_line;
-use machine::Machine;
-use machine::execute;
 use print::put_mistake;
 use print::put_reply;
+use script_language::Command;
+use script_language::Line;
+use script_language::read_line;
+use script_machine::Machine;
+use script_machine::execute;
 
 // The machine after a line, and how many bytes were printed.
 pub struct Answered {
@@ -22,6 +22,7 @@ pub struct Answered {
     pub printed: usize,
 }
 
+// Carries out a command, and prints the reply.
 fn answer_command(
     c: Command,
     m: Machine,
@@ -29,8 +30,9 @@ fn answer_command(
     ledger: &mut [u32],
     out: &mut [u8],
 ) -> Answered
-    requires { ⌜ (Kept m (now ram) (now ledger)) × (Room (length (now ram)) (length (now out))) ⌝ }
-    ensures { λ r. ⌜ Answers (Read.Asked c) m (now (ram .entry)) (now (ledger .entry)) (now (ram .exit)) (now (ledger .exit)) (now (out .exit)) r ⌝ }
+    requires { ⌜ (Machine-sound m (now ram) (now ledger)) × (Room (length (now ram)) (length (now out))) ⌝ }
+    ensures { λ r. ⌜ Line-answered (Line.Asks c) m (now (ram .entry)) (now (ledger .entry))
+        (now (ram .exit)) (now (ledger .exit)) (now (out .exit)) r ⌝ }
 {
     let o = execute(c, m, ram, ledger);
     let machine = o.machine;
@@ -47,16 +49,17 @@ pub fn answer_line(
     ledger: &mut [u32],
     out: &mut [u8],
 ) -> Answered
-    requires { ⌜ (Kept m (now ram) (now ledger)) × (Room (length (now ram)) (length (now out))) ⌝ }
-    ensures { λ r. ⌜ Answers (readOf (now (line .entry))) m (now (ram .entry)) (now (ledger .entry)) (now (ram .exit)) (now (ledger .exit)) (now (out .exit)) r ⌝ }
+    requires { ⌜ (Machine-sound m (now ram) (now ledger)) × (Room (length (now ram)) (length (now out))) ⌝ }
+    ensures { λ r. ⌜ Line-answered (read-line (now (line .entry))) m (now (ram .entry)) (now (ledger .entry))
+        (now (ram .exit)) (now (ledger .exit)) (now (out .exit)) r ⌝ }
 {
     match read_line(line) {
-        Read::Nothing => Answered {
+        Line::Empty => Answered {
             machine: m,
             printed: 0,
         },
-        Read::Asked(c) => answer_command(c, m, ram, ledger, out),
-        Read::Unread(why) => Answered {
+        Line::Asks(c) => answer_command(c, m, ram, ledger, out),
+        Line::Unreadable(why) => Answered {
             machine: m,
             printed: put_mistake(out, why),
         },

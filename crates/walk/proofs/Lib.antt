@@ -1,3 +1,2 @@
--- What follows from the definitions: laws for the proofs of the code and for crates above, and the theorems.
+-- What follows from the definitions: laws for the proofs of the code and for crates above.
 pub mod Laws
-pub mod Theorems

@@ -1,68 +1,82 @@
 -- What the code's functions hand to each other, in the words of the definitions. No sentence of document 01 is decided here.
-use Prim.Native.Nat.{ℕ, _+_, _-_, _^_, _<_, _≤_}
+use Prim.Native.Nat.{ℕ, _+_, _-_, _<_, _≤_}
 use mathlib.Core.Path.{_≡_}
 use mathlib.Core.Bool.{Bool}
 use mathlib.Core.List.{List}
 use mathlib.Core.Option.{Option, none, some}
 use lib.ListN.{length}
+use Rattle.memory.specs.Ram.{address-end}
 use Rattle.walk.specs.declared.Answer.{Answer}
 use Rattle.walk.specs.declared.Answer.the-variants.{Found, Fault}
-use Rattle.descriptor.specs.declared.Kind.the-variants.{WalkAbort}
-use Rattle.step.specs.declared.Step.{Step}
-use Rattle.step.specs.declared.Step.the-variants.{Absent}
+use Rattle.walk_descriptor.specs.declared.FaultKind.the-variants.{WalkAbort}
+use Rattle.walk_descriptor.specs.Descriptor.{last-level}
+use Rattle.walk_level.specs.declared.Step.{Step}
+use Rattle.walk_level.specs.declared.Step.the-variants.{Absent}
 use Rattle.walk.specs.declared.Ended.{Ended}
 use Rattle.walk.specs.declared.Ended.the-variants.{Reached, Failed}
-use Rattle.walk.specs.declared.Turn.{Turn}
-use Rattle.walk.specs.declared.Turn.the-variants.{Next, Told}
+use Rattle.walk.specs.declared.LevelOutcome.{LevelOutcome}
+use Rattle.walk.specs.declared.LevelOutcome.the-variants.{NextTable, Answered}
 use Rattle.walk.specs.Memory.{read-at}
-use Rattle.step.specs.Stage.{meaning, walk-from}
-use Rattle.step.specs.Step.{step-of}
-use Rattle.walk.specs.Both.{Walked, ends, fetched-at, One, reached, failed, Both, fault, tell, fetch-1, fetch-2, rules-1, rules-2}
+use Rattle.walk_level.specs.Stage.{meaning, walk-from}
+use Rattle.walk_level.specs.Step.{step-of}
+use Rattle.walk.specs.Both.{Walked, ends, fetched-at, Stage-2-result, reached, failed, Both-result, fault, as-answer, fetch-1, fetch-2, rules-1, rules-2}
 
-abbrev pub step-read : (ℕ → Bool) → ℕ → ℕ → Option ℕ → Step
+-- Stage 2 fetches 4 descriptors at most, and a level of stage 1 one more. Before the last walk of stage 2 there were 20 at most.
+abbrev pub most-by-stage-2 : ℕ
+most-by-stage-2 = 4
+
+abbrev pub most-by-level : ℕ
+most-by-level = 5
+
+abbrev pub most-before-last : ℕ
+most-before-last = 20
+
+abbrev pub step-read : (rights : ℕ → Bool) (ia level : ℕ) → Option ℕ → Step
 step-read rights ia level none = Absent
 step-read rights ia level (some d) = step-of rights ia level d
 
 -- what the descriptor at the physical address a comes to
-unfoldable pub step-at : List ℕ → ℕ → (ℕ → Bool) → ℕ → ℕ → ℕ → Step
-step-at m b rights ia level a = step-read rights ia level (read-at m b a)
+unfoldable pub step-at : (ram : List ℕ) (base : ℕ) (rights : ℕ → Bool) (ia level a : ℕ) → Step
+step-at ram base rights ia level a = step-read rights ia level (read-at ram base a)
 
--- what is told of a walk before which n descriptors had been fetched
-unfoldable pub tells : {R A : Type 0} → (R → ℕ → A) → ℕ → Walked R → A
-tells say n w = say (w .result) (n + length (w .fetched))
+-- what is said of a walk before which some descriptors had been fetched: its result, and the number of all of them
+unfoldable pub with-count : {R A : Type 0} → (say : R → ℕ → A) (before : ℕ) → Walked R → A
+with-count say before w = say (w .result) (before + length (w .fetched))
 
-abbrev pub end-by : One → ℕ → Ended
-end-by (reached a) n = Reached a n
-end-by (failed kind level) n = Failed kind level n
+abbrev pub as-ended : Stage-2-result → (fetched : ℕ) → Ended
+as-ended (reached a) n = Reached a n
+as-ended (failed kind level) n = Failed kind level n
 
-abbrev pub ended : ℕ → Walked One → Ended
-ended = tells end-by
+abbrev pub ended : (before : ℕ) → Walked Stage-2-result → Ended
+ended = with-count as-ended
 
-abbrev pub told : ℕ → Walked Both → Answer
-told = tells tell
+abbrev pub answered : (before : ℕ) → Walked Both-result → Answer
+answered = with-count as-answer
 
--- a walk that stands at a table of level 3 - left
-abbrev pub rest-2 : List ℕ → ℕ → ℕ → ℕ → ℕ → ℕ → Walked One
-rest-2 m b access ipa left table = walk-from (rules-2 access) ipa (fetch-2 m b) left table
+-- the rest of a walk from a table below which `left` levels are left
+abbrev pub from-table-2 : (ram : List ℕ) (base access ipa left table : ℕ) → Walked Stage-2-result
+from-table-2 ram base access ipa left table = walk-from (rules-2 access) ipa (fetch-2 ram base) left table
 
-abbrev pub rest-1 : List ℕ → ℕ → ℕ → ℕ → ℕ → ℕ → ℕ → ℕ → Walked Both
-rest-1 m b root2 access el va left table = walk-from (rules-1 m b root2 access el) va (fetch-1 m b root2) left table
+abbrev pub from-table-1 : (ram : List ℕ) (base root2 access el va left table : ℕ) → Walked Both-result
+from-table-1 ram base root2 access el va left table =
+    walk-from (rules-1 ram base root2 access el) va (fetch-1 ram base root2) left table
 
--- stage 1, where it reached the descriptor of a level at the physical address a
-unfoldable pub here-1 : List ℕ → ℕ → ℕ → ℕ → ℕ → ℕ → ℕ → ℕ → Walked Both
-here-1 m b root2 access el va level a =
-    fetched-at a (read-at m b a) (ends (fault WalkAbort 1 level))
-    (λ d. meaning (rules-1 m b root2 access el) va level d (rest-1 m b root2 access el va (3 - (level + 1))))
+-- the rest of stage 1 from the descriptor of a level, which was reached at the physical address a
+unfoldable pub from-descriptor-1 : (ram : List ℕ) (base root2 access el va level a : ℕ) → Walked Both-result
+from-descriptor-1 ram base root2 access el va level a =
+    fetched-at a (read-at ram base a) (ends (fault WalkAbort 1 level))
+    (λ d. meaning (rules-1 ram base root2 access el) va level d (from-table-1 ram base root2 access el va (last-level - (level + 1))))
 
--- a turn of stage 1 at a level: it told the answer, `whole`, or the walk goes on, and `most` descriptors at most were fetched
-module _ (m : List ℕ) (b root2 access el va level most : ℕ) (whole : Answer) where
-  abbrev pub turn-to : Turn → Type 0
-  turn-to (Told x) = x ≡ whole
-  turn-to (Next t k) =
-      (level < 3) × (t < 2 ^ 48) × (k ≤ most) × (whole ≡ told k (rest-1 m b root2 access el va (3 - (level + 1)) t))
+-- A level of stage 1 came to the answer, `whole`, or the walk goes on from the next table, and `most` descriptors at most were fetched.
+module _ (ram : List ℕ) (base root2 access el va level most : ℕ) (whole : Answer) where
+  abbrev pub level-comes-to : LevelOutcome → Type 0
+  level-comes-to (Answered x) = x ≡ whole
+  level-comes-to (NextTable t k) =
+      (level < last-level) × (t < address-end) × (k ≤ most)
+      × (whole ≡ answered k (from-table-1 ram base root2 access el va (last-level - (level + 1)) t))
 
-  pub record Turns (x : Turn) : Type 0 where
-    pub so : turn-to x
+  pub record Level-comes-to (x : LevelOutcome) : Type 0 where
+    pub so : level-comes-to x
 
 -- the answer of a walk whose last part is stage 2, which ended so
 abbrev pub Finished : Ended → Answer → Type 0

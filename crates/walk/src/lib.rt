@@ -3,13 +3,14 @@
 ghost use mathlib.Core.Path.{_≡_};
 ghost use mathlib.Core.Bool.{_&&_};
 ghost use lib.Dec.{ltb};
+ghost use Rattle.walk_descriptor.specs.Descriptor.{kinds-of-access, exception-levels};
 ghost use Rattle.walk.specs.Memory.{image-fits};
 ghost use Rattle.walk.specs.Both.{root-fits, stage2-fits, both-fits, answer-2, answer};
 
 mod stage_1;
 mod stage_2;
 
-pub use descriptor::Kind;
+pub use walk_descriptor::FaultKind;
 
 // `fetched` is the number of descriptors that were read.
 pub enum Answer {
@@ -18,14 +19,14 @@ pub enum Answer {
         fetched: u64,
     },
     Fault {
-        kind: Kind,
+        kind: FaultKind,
         stage: u64,
         level: u64,
         fetched: u64,
     },
     // A failure of stage 2 at `level`, while stage 1 fetched its descriptor of the level `of`.
     During {
-        kind: Kind,
+        kind: FaultKind,
         level: u64,
         of: u64,
         fetched: u64,
@@ -40,44 +41,35 @@ enum Ended {
         fetched: u64,
     },
     Failed {
-        kind: Kind,
+        kind: FaultKind,
         level: u64,
         fetched: u64,
     },
 }
 
 // What a level of stage 1 came to.
-enum Turn {
-    Next { table: u64, fetched: u64 },
-    Told(Answer),
+enum LevelOutcome {
+    NextTable { table: u64, fetched: u64 },
+    Answered(Answer),
 }
 
 // Section 1: whether RAM of `len` bytes and `frames` frames from `base` is one that the document describes.
 fn fits_image(len: usize, base: u64, frames: u64) -> bool
     ensures { λ r. ⌜ r ≡ image-fits len base frames ⌝ }
 {
-    if frames < 16 {
-        return false;
+    if memory::ram_fits(base, frames) {
+        return len as u64 == memory::FRAME_BYTES * frames;
     }
-    if 65536 < frames {
-        return false;
-    }
-    if base % 4096 != 0 {
-        return false;
-    }
-    if 0x1000000000000 - 4096 * frames < base {
-        return false;
-    }
-    len as u64 == 4096 * frames
+    false
 }
 
 fn fits_root(root: u64) -> bool
     ensures { λ r. ⌜ r ≡ root-fits root ⌝ }
 {
-    if root % 4096 != 0 {
+    if root % memory::FRAME_BYTES != 0 {
         return false;
     }
-    root < 0x1000000000000
+    root < memory::ADDRESS_END
 }
 
 fn fits_stage2(len: usize, base: u64, frames: u64, root: u64, ipa: u64, access: u64) -> bool
@@ -85,8 +77,8 @@ fn fits_stage2(len: usize, base: u64, frames: u64, root: u64, ipa: u64, access: 
 {
     if fits_image(len, base, frames) {
         if fits_root(root) {
-            if access < 3 {
-                return ipa < 0x1000000000000;
+            if access < walk_descriptor::KINDS_OF_ACCESS {
+                return ipa < memory::ADDRESS_END;
             }
         }
     }
@@ -94,10 +86,10 @@ fn fits_stage2(len: usize, base: u64, frames: u64, root: u64, ipa: u64, access: 
 }
 
 fn fits_access(access: u64, el: u64) -> bool
-    ensures { λ r. ⌜ r ≡ (ltb access 3 && ltb el 2) ⌝ }
+    ensures { λ r. ⌜ r ≡ (ltb access kinds-of-access && ltb el exception-levels) ⌝ }
 {
-    if access < 3 {
-        return el < 2;
+    if access < walk_descriptor::KINDS_OF_ACCESS {
+        return el < walk_descriptor::EXCEPTION_LEVELS;
     }
     false
 }
@@ -128,7 +120,7 @@ pub fn stage2(ram: &[u8], base: u64, frames: u64, root: u64, ipa: u64, access: u
     ensures { λ r. ⌜ r ≡ answer-2 (now (ram .entry)) base frames root ipa access ⌝ }
 {
     if fits_stage2(ram.len(), base, frames, root, ipa, access) {
-        return stage_2::last(ram, base, root, access, ipa, 0);
+        return stage_2::answer(ram, base, root, access, ipa, 0);
     }
     Answer::Refused
 }

@@ -1,33 +1,34 @@
 // Document 01, section 4: stage 2, whose tables lie in RAM.
 ghost use mathlib.Core.Path.{_≡_};
-ghost use Prim.Native.Nat.{_+_, _<_, _≤_, _^_};
-ghost use Rattle.walk.specs.Both.{stage-2, tell-2};
-ghost use Rattle.descriptor.specs.Descriptor.{allows};
-ghost use Rattle.walk.specs.Steps.{step-at, tells, ended, Finished};
+ghost use Prim.Native.Nat.{_+_, _*_, _<_, _≤_};
+ghost use Rattle.memory.specs.Ram.{address-end};
+ghost use Rattle.walk_descriptor.specs.Descriptor.{last-level, allows};
+ghost use Rattle.walk.specs.Both.{stage-2, as-answer-2};
+ghost use Rattle.walk.specs.Steps.{most-before-last, step-at, with-count, ended, Finished};
 use super::Answer;
 use super::Ended;
-use descriptor::Kind;
-use step::Step;
+use walk_descriptor::FaultKind;
+use walk_level::Step;
 
 // The descriptor at the physical address `a`, for the input address `ia` of a stage.
 pub(crate) fn visit(
     ram: &[u8],
     base: u64,
     stage: u64,
-    el: u64,
     access: u64,
+    el: u64,
     ia: u64,
     level: u64,
     a: u64,
 ) -> Step
-    requires { ⌜ (level ≤ 3) × (a < 2 ^ 49) ⌝ }
-    ensures { λ r. ⌜ r ≡ step-at (now (ram .entry)) base (allows stage el access) ia level a ⌝ }
+    requires { ⌜ (level ≤ last-level) × (a < 2 * address-end) ⌝ }
+    ensures { λ r. ⌜ r ≡ step-at (now (ram .entry)) base (allows stage access el) ia level a ⌝ }
 {
     if base <= a {
         let at = (a - base) as usize;
-        if at + 8 <= ram.len() {
+        if at + walk_descriptor::DESCRIPTOR_BYTES as usize <= ram.len() {
             let d = memory::word(ram, at);
-            return step::examine(stage, el, access, ia, level, d);
+            return walk_level::examine(stage, access, el, ia, level, d);
         }
     }
     Step::Absent
@@ -35,14 +36,23 @@ pub(crate) fn visit(
 
 // `before` descriptors were fetched on the way here.
 pub(crate) fn walk(ram: &[u8], base: u64, root: u64, access: u64, ipa: u64, before: u64) -> Ended
-    requires { ⌜ (root < 2 ^ 48) × (before ≤ 20) ⌝ }
+    requires { ⌜ (root < address-end) × (before ≤ most-before-last) ⌝ }
     ensures { λ r. ⌜ r ≡ ended before (stage-2 (now (ram .entry)) base root access ipa) ⌝ }
 {
     let mut level: u64 = 0;
     let mut table = root;
     loop {
-        let a = step::place(level, ipa, table);
-        let step = visit(ram, base, 2, 0, access, ipa, level, a);
+        let a = walk_level::slot(level, ipa, table);
+        let step = visit(
+            ram,
+            base,
+            walk_descriptor::STAGE_2,
+            access,
+            walk_descriptor::EL0,
+            ipa,
+            level,
+            a,
+        );
         match step {
             Step::Down(t) => {
                 table = t;
@@ -63,7 +73,7 @@ pub(crate) fn walk(ram: &[u8], base: u64, root: u64, access: u64, ipa: u64, befo
             }
             Step::Absent => {
                 return Ended::Failed {
-                    kind: Kind::WalkAbort,
+                    kind: FaultKind::WalkAbort,
                     level,
                     fetched: before + level,
                 };
@@ -72,7 +82,7 @@ pub(crate) fn walk(ram: &[u8], base: u64, root: u64, access: u64, ipa: u64, befo
     }
 }
 
-fn finish(end: Ended) -> Answer
+fn as_answer(end: Ended) -> Answer
     ensures { λ r. ⌜ Finished end r ⌝ }
 {
     match end {
@@ -83,7 +93,7 @@ fn finish(end: Ended) -> Answer
             fetched,
         } => Answer::Fault {
             kind,
-            stage: 2,
+            stage: walk_descriptor::STAGE_2,
             level,
             fetched,
         },
@@ -91,9 +101,9 @@ fn finish(end: Ended) -> Answer
 }
 
 // Stage 2 as the last part of a walk: its end is the answer.
-pub(crate) fn last(ram: &[u8], base: u64, root: u64, access: u64, ipa: u64, before: u64) -> Answer
-    requires { ⌜ (root < 2 ^ 48) × (before ≤ 20) ⌝ }
-    ensures { λ r. ⌜ r ≡ tells tell-2 before (stage-2 (now (ram .entry)) base root access ipa) ⌝ }
+pub(crate) fn answer(ram: &[u8], base: u64, root: u64, access: u64, ipa: u64, before: u64) -> Answer
+    requires { ⌜ (root < address-end) × (before ≤ most-before-last) ⌝ }
+    ensures { λ r. ⌜ r ≡ with-count as-answer-2 before (stage-2 (now (ram .entry)) base root access ipa) ⌝ }
 {
-    finish(walk(ram, base, root, access, ipa, before))
+    as_answer(walk(ram, base, root, access, ipa, before))
 }

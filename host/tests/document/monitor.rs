@@ -38,8 +38,17 @@ pub enum Wrong {
     NotCleared,
 }
 
+/// A store to RAM that an operation makes: a frame filled with zeros, or a descriptor.
+#[derive(Clone, Copy, Debug, PartialEq, Eq)]
+pub enum Stored {
+    Cleared { f: u64 },
+    Word { address: u64, word: u64 },
+}
+
 pub struct Monitor {
     pub ram: Vec<u8>,
+    /// The stores of the last operation, in their order.
+    pub stores: Vec<Stored>,
     pub base: u64,
     pub frames: Vec<Kind>,
     guests: [Guest; 4],
@@ -72,16 +81,16 @@ fn index(a: u64, level: usize) -> u64 {
 
 impl Monitor {
     /// Section 1, and document 01, section 1: the frames, where the numbers and the slices fit.
-    pub fn fits(ram_length: usize, ledger_fits: bool, n: u64, b: u64, k: u64) -> Result<Vec<Kind>, u64> {
+    pub fn fits(ram_length: usize, ledger_fits: bool, b: u64, n: u64, k: u64) -> Result<Vec<Kind>, u64> {
         check((16..=65_536).contains(&n) && k < n, 4)?;
         check(b % 4096 == 0 && b <= (1 << 48) - 4096 * n, 4)?;
         check(ram_length as u64 == 4096 * n && ledger_fits, 4)?;
         Ok((0..n).map(|f| if f < k { Kind::Monitor } else { Kind::Free }).collect())
     }
 
-    pub fn set_up(ram: &[u8], n: u64, b: u64, k: u64) -> Result<Monitor, u64> {
-        let frames = Monitor::fits(ram.len(), true, n, b, k)?;
-        Ok(Monitor { ram: ram.to_vec(), base: b, frames, guests: Default::default(), bad_choice: None, wrong: None })
+    pub fn set_up(ram: &[u8], b: u64, n: u64, k: u64) -> Result<Monitor, u64> {
+        let frames = Monitor::fits(ram.len(), true, b, n, k)?;
+        Ok(Monitor { ram: ram.to_vec(), stores: Vec::new(), base: b, frames, guests: Default::default(), bad_choice: None, wrong: None })
     }
 
     pub fn guest(&self, g: u64) -> Option<Guest> {
@@ -150,6 +159,12 @@ impl Monitor {
     fn put(&mut self, address: u64, word: u64) {
         let at = (address - self.base) as usize;
         self.ram[at..at + 8].copy_from_slice(&word.to_le_bytes());
+        self.stores.push(Stored::Word { address, word });
+    }
+
+    fn clear(&mut self, f: u64) {
+        self.bytes(f).fill(0);
+        self.stores.push(Stored::Cleared { f });
     }
 
     /// A free frame becomes a table of g, all zero. Its address.
@@ -160,7 +175,7 @@ impl Monitor {
             f = lowest(self, None);
         }
         self.frames[f as usize] = Kind::Table { of: g };
-        self.bytes(f).fill(0);
+        self.clear(f);
         self.address(f)
     }
 
@@ -200,7 +215,7 @@ impl Monitor {
         let nobody = BTreeSet::new;
         self.frames[f as usize] = Kind::Page(Page { owner: g, readers: nobody(), writers: nobody(), places: BTreeSet::new() });
         if self.wrong != Some(Wrong::NotCleared) {
-            self.bytes(f).fill(0);
+            self.clear(f);
         }
         Ok(())
     }

@@ -1,6 +1,6 @@
 //! Document 03, section 4: what the processor may use for each guest, gathered from RAM's bytes and the guests' roots alone, and
 //! held to what the ledger says of the frames: isolation, seen from outside.
-use crate::subject::{Frame, Subject};
+use crate::subject::Frame;
 use std::collections::{BTreeMap, BTreeSet};
 
 /// A page translation: the guest-physical address, the frame's address, and whether it may be read, written, executed.
@@ -39,18 +39,28 @@ impl Caches {
         self.kept[g as usize - 1] = Kept::default();
     }
 
-    /// The processor keeps all that it can: from each guest's root, and from each table that it kept.
-    pub fn look(&mut self, subject: &impl Subject) -> Result<(), String> {
+    /// Guests run from these roots.
+    pub fn start(&mut self, roots: [Option<u64>; 4]) {
+        for (kept, root) in self.kept.iter_mut().zip(roots) {
+            kept.tables.extend(root.map(|root| ((root, 0), 0)));
+        }
+    }
+
+    /// Whether the processor can find anything in a frame: it was kept for a table.
+    pub fn finds(&self, f: u64) -> bool {
+        let address = self.base + 4096 * f;
+        self.kept.iter().any(|kept| kept.tables.range((address, 0)..=(address, 3)).next().is_some())
+    }
+
+    /// The processor keeps all that it can, from each table that it kept.
+    pub fn look(&mut self, ram: &[u8]) -> Result<(), String> {
         for g in 1..=4 {
             let kept = &mut self.kept[g as usize - 1];
-            if let Some(root) = subject.guest(g).root {
-                kept.tables.insert((root, 0), 0);
-            }
             let mut open: Vec<_> = kept.tables.iter().map(|((table, level), ipa)| (*table, *level, *ipa)).collect();
             while let Some((table, level, ipa)) = open.pop() {
                 let at = table.checked_sub(self.base).filter(|at| *at < self.size);
                 let at = at.ok_or_else(|| format!("guest {g} has a table at {table:x}, outside of RAM"))?;
-                let words = &subject.ram()[at as usize..][..4096];
+                let words = &ram[at as usize..][..4096];
                 kept.keep(words, level, ipa, &mut open)?;
             }
         }
@@ -62,23 +72,47 @@ impl Caches {
         at.map(|at| at / 4096).ok_or_else(|| format!("guest {g} reaches {address:x}, outside of RAM"))
     }
 
-    /// What a guest may reach is its own page, or one that is shared with it for that, or one that drains for it.
-    pub fn isolated(&self, subject: &impl Subject) -> Result<(), String> {
+    /// What a guest may reach is its own page, or one that is shared with it for that, or one that drains for it. So no table.
+    pub fn isolated(&self, what: impl Fn(u64) -> Frame) -> Result<(), String> {
         for g in 1..=4 {
-            let kept = &self.kept[g as usize - 1];
-            for translation in &kept.pages {
+            for translation in self.pages(g) {
                 let f = self.frame(g, translation.address)?;
-                let frame = subject.frame(f);
+                let frame = what(f);
                 if !allowed(g, &frame, translation.rights) {
                     return Err(format!("guest {g} reaches frame {f}, which is {frame:?}, by {translation:x?}"));
                 }
             }
-            for (table, level) in kept.tables.keys() {
+        }
+        Ok(())
+    }
+
+    /// The tables that are kept for a guest are its own, or were.
+    pub fn tables(&self, what: impl Fn(u64) -> Frame) -> Result<(), String> {
+        for g in 1..=4 {
+            for (table, level) in self.kept[g as usize - 1].tables.keys() {
                 let f = self.frame(g, *table)?;
-                let frame = subject.frame(f);
+                let frame = what(f);
                 if !matches!(frame, Frame::Table { of } | Frame::Draining { of } if of == g) {
                     return Err(format!("guest {g} has frame {f} for a table of level {level}, and it is {frame:?}"));
                 }
+            }
+        }
+        Ok(())
+    }
+
+    /// An address of a guest has one translation, with one frame and one set of rights; and a range has one table of a level.
+    pub fn single(&self) -> Result<(), String> {
+        for (kept, g) in self.kept.iter().zip(1..) {
+            let mut before = None;
+            for translation in &kept.pages {
+                if before == Some(translation.ipa) {
+                    return Err(format!("guest {g} has two translations of {:x}", translation.ipa));
+                }
+                before = Some(translation.ipa);
+            }
+            let ranges: BTreeSet<_> = kept.tables.iter().map(|((_, level), ipa)| (level, ipa)).collect();
+            if ranges.len() != kept.tables.len() {
+                return Err(format!("guest {g} has two tables of one range: {:x?}", kept.tables));
             }
         }
         Ok(())

@@ -2,17 +2,19 @@
 use crate::common::{setting, told, Random};
 use crate::document;
 use crate::document_03::{Kind, Monitor};
-use crate::run::{Run, Seen};
+use crate::run::Run;
+use crate::seen::Seen;
 use crate::steps::Operation::{self, *};
+use crate::subject::Subject;
 use crate::Shape;
-use pageledger::{answer, ledger_words, Access, Answer, Frame, Guest, Refusal, Shared};
+use pageledger::{answer, ledger_words, Access, Answer, Frame, Guest, Refusal, Rights, Shared};
 
 /// Runs operations with their answers on the library, each held to all that a random one is held to.
 fn answers(shape: Shape, script: &[(Operation, u64)], then: impl FnOnce(&pageledger::Monitor)) {
     let random = &mut Random(5);
     let (mut ram, mut ledger) = (shape.ram(random), shape.ledger(random));
     let document = shape.document(&ram);
-    let mut subject = pageledger::Monitor::set_up(&mut ram, &mut ledger, shape.n, shape.b, shape.k).expect("numbers that fit");
+    let mut subject = shape.library(&mut ram, &mut ledger);
     let mut seen = Seen::new();
     let mut run = Run::new(&mut subject, document, random, &mut seen);
     for (at, (operation, answer)) in script.iter().enumerate() {
@@ -60,7 +62,7 @@ fn section_5() {
         (Invalidated { g: 1 }, 0),
         (Create { g: 1 }, 0),
     ];
-    let shape = Shape { n: 16, b: 0x40000000, k: 2 };
+    let shape = Shape { b: 0x40000000, n: 16, k: 2 };
     answers(shape, &script, |_| ());
     answers(shape, &script[..19], |monitor| assert_eq!(monitor.frame(8), Some(Frame::Draining { of: 1 })));
 }
@@ -70,24 +72,24 @@ fn section_5() {
 fn runs_out() {
     let first = [(Create { g: 1 }, 0), (Give { f: 14, g: 1 }, 0), (Give { f: 15, g: 1 }, 0), (Map { f: 14, g: 1, a: 0, r: 1 }, 0)];
     let last = (Map { f: 15, g: 1, a: 1 << 47, r: 1 }, 3);
-    let shape = Shape { n: 16, b: 0x40000000, k: 10 };
+    let shape = Shape { b: 0x40000000, n: 16, k: 10 };
     answers(shape, &[&first[..], &[last]].concat(), |_| ());
 
     let script = [(Create { g: 1 }, 0), (Give { f: 9, g: 1 }, 0), (Map { f: 9, g: 1, a: 0x5000, r: 3 }, 0)];
-    answers(Shape { n: 16, b: 0x40000000, k: 2 }, &script, |monitor| {
-        let entries: Vec<_> = monitor.ram().bytes.chunks(8).filter(|word| **word == 0x00400000400097ffu64.to_le_bytes()).collect();
+    answers(Shape { b: 0x40000000, n: 16, k: 2 }, &script, |monitor| {
+        let entries: Vec<_> = monitor.ram().chunks(8).filter(|word| **word == 0x00400000400097ffu64.to_le_bytes()).collect();
         assert_eq!(entries.len(), 1, "the entry for reading and writing frame 0x40009000");
     });
 }
 
 /// Set-up's answer for any numbers, beside the document's; a refusal changes nothing, and RAM never changes.
 fn set_up_once(shape: Shape, ram_length: usize, words: usize) {
-    let Shape { n, b, k } = shape;
+    let Shape { b, n, k } = shape;
     let held = |at: usize| (at % 251) as u8;
     let mut ram: Vec<u8> = (0..ram_length).map(held).collect();
     let mut ledger = vec![0x5a5a5a5a; words];
-    let expected = Monitor::fits(ram_length, n <= 65_536 && words == ledger_words(n), n, b, k);
-    let answer = pageledger::Monitor::set_up(&mut ram, &mut ledger, n, b, k);
+    let expected = Monitor::fits(ram_length, n <= 65_536 && words == ledger_words(n), b, n, k);
+    let answer = pageledger::Monitor::simulated(&mut ram, &mut ledger, b, n, k);
     let case = format!("{shape:x?} with {ram_length} bytes and {words} words");
     match (&answer, &expected) {
         (Ok(monitor), Ok(frames)) => {
@@ -111,23 +113,30 @@ fn set_up() {
         let (bytes, words) = (4096 * n as usize, ledger_words(n));
         let highest = end - 4096 * n;
         for k in [0, 1, n - 1, n, n + 1].into_iter().chain(high) {
-            set_up_once(Shape { n, b: 0, k }, bytes, words);
+            set_up_once(Shape { b: 0, n, k }, bytes, words);
         }
         for b in [0, 1, 8, 0x800, 0xfff, 0x1000, highest, highest + 1, highest + 4096, end - 4096, !0xfff].into_iter().chain(high) {
-            set_up_once(Shape { n, b, k: 2 }, bytes, words);
+            set_up_once(Shape { b, n, k: 2 }, bytes, words);
         }
         for other in [0, 1, 15, n - 1, n + 1, 65_536, 65_537].into_iter().chain(high) {
-            set_up_once(Shape { n: other, b: 0, k: 0 }, bytes, words);
+            set_up_once(Shape { b: 0, n: other, k: 0 }, bytes, words);
         }
         for length in [0, 1, bytes - 4096, bytes - 8, bytes - 1, bytes + 1, bytes + 4096] {
-            set_up_once(Shape { n, b: 0, k: 0 }, length, words);
+            set_up_once(Shape { b: 0, n, k: 0 }, length, words);
         }
         for length in [0, 1, 143, 144, words - 16, words - 1, words + 1, words + 16] {
-            set_up_once(Shape { n, b: 0, k: 0 }, bytes, length);
+            set_up_once(Shape { b: 0, n, k: 0 }, bytes, length);
         }
     }
     for n in [0, 15, 65_536, 65_537] {
-        set_up_once(Shape { n, b: 0x40000000, k: n / 2 }, 4096 * n as usize, ledger_words(n));
+        set_up_once(Shape { b: 0x40000000, n, k: n / 2 }, 4096 * n as usize, ledger_words(n));
+    }
+    let (mut words, mut ledger) = (vec![0u64; 16 * 512 + 1], vec![0; ledger_words(16)]);
+    // SAFETY: bytes of these words.
+    let bytes = unsafe { words.align_to_mut::<u8>().1 };
+    for place in 0..=8 {
+        let answer = pageledger::Monitor::simulated(&mut bytes[place..place + 16 * 4096], &mut ledger, 0x40000000, 16, 2);
+        assert_eq!(answer.err(), if place % 8 == 0 { None } else { Some(Refusal::NoFrame) }, "RAM at {place} of 8");
     }
 }
 
@@ -136,17 +145,17 @@ fn set_up() {
 fn most_frames() {
     let (n, end) = (65_536, 1 << 48);
     let (mut ram, mut ledger) = (vec![0; 4096 * n as usize], vec![0; ledger_words(n)]);
-    let mut monitor = pageledger::Monitor::set_up(&mut ram, &mut ledger, n, end - 4096 * n, 1).expect("numbers that fit");
+    let mut monitor = Shape { b: end - 4096 * n, n, k: 1 }.library(&mut ram, &mut ledger);
     assert_eq!(monitor.create(4), Ok(()));
     assert_eq!(monitor.give(n, 4), Err(Refusal::NoFrame));
     assert_eq!(monitor.give(n - 1, 4), Ok(()));
-    assert_eq!(monitor.map(n - 1, 4, end - 4096, 7), Ok(()));
+    assert_eq!(monitor.map(n - 1, 4, end - 4096, Rights::ReadWriteExecute), Ok(()));
     let last = Answer::Found { address: end - 1, fetched: 4 };
     assert_eq!(monitor.translation(4, end - 1, Access::Execute), last);
     assert_eq!(monitor.store(4, end - 4, b"last"), Ok(()));
-    assert!(monitor.ram().bytes.ends_with(b"last"));
+    assert!(monitor.ram().ends_with(b"last"));
     for place in 0..2000 {
-        assert_eq!(monitor.map(n - 1, 4, 4096 * place, 1), Ok(()));
+        assert_eq!(monitor.map(n - 1, 4, 4096 * place, Rights::Read), Ok(()));
     }
     assert_eq!(monitor.frame(n - 1), Some(Frame::Page { owner: 4, places: 2001 }));
     assert_eq!(monitor.unmap(end - 4096, 4), Ok(()));
@@ -199,7 +208,7 @@ fn ask(subject: &mut pageledger::Monitor, document: &Monitor, addresses: &[u64],
     let translation = answer(told(random, |out| subject.translation_raw(g, ipa, access, out)));
     let walked = document.root(g).map(|root| document::stage2(&document.ram, document.base, n, root, ipa, access).answer);
     assert_eq!(translation, walked.unwrap_or(Answer::Refused), "guest {g:x}, {ipa:x}, {access:x}");
-    assert_eq!(subject.page_mut(f).is_some(), document.page(f).is_some(), "frame {f:x}");
+    assert_eq!(subject.page(f).is_some(), document.page(f).is_some(), "frame {f:x}");
 }
 
 /// Questions about any numbers in many states, and arrays with room and without.
@@ -211,7 +220,7 @@ fn questions() {
         let shape = Shape::new(random);
         let (mut ram, mut ledger) = (shape.ram(random), shape.ledger(random));
         let document = shape.document(&ram);
-        let mut subject = pageledger::Monitor::set_up(&mut ram, &mut ledger, shape.n, shape.b, shape.k).expect("numbers that fit");
+        let mut subject = shape.library(&mut ram, &mut ledger);
         let mut seen = Seen::new();
         let mut run = Run::new(&mut subject, document, random, &mut seen);
         for _ in 0..200 {

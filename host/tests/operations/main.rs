@@ -13,91 +13,19 @@ mod common;
 mod document;
 #[path = "../document/monitor.rs"]
 mod document_03;
+mod faces;
+mod list;
 mod run;
+mod seen;
+mod shape;
 mod steps;
 mod subject;
 
 use common::{setting, Random};
-use document_03::{Monitor, Wrong};
-use run::{Run, Seen};
-use steps::REFUSALS;
-use subject::Subject;
-
-/// What set-up is asked for.
-#[derive(Clone, Copy, Debug)]
-struct Shape {
-    n: u64,
-    b: u64,
-    k: u64,
-}
-
-impl Shape {
-    fn new(random: &mut Random) -> Shape {
-        let n = match random.below(16) {
-            0 => 16,
-            1 => 100 + random.below(300),
-            2..=4 => 48 + random.below(50),
-            _ => 16 + random.below(32),
-        };
-        let highest = (1 << 48) - 4096 * n;
-        let anywhere = ((random.next() % (1 << 48)) & !0xfff).min(highest);
-        let k = match random.below(8) {
-            0 => 0,
-            1 => random.below(n),
-            _ => random.below(8),
-        };
-        Shape { n, b: random.pick(&[0, 0x40000000, highest, anywhere]), k }
-    }
-
-    fn ram(&self, random: &mut Random) -> Vec<u8> {
-        (0..512 * self.n).flat_map(|_| random.next().to_le_bytes()).collect()
-    }
-
-    fn ledger(&self, random: &mut Random) -> Vec<u32> {
-        (0..pageledger::ledger_words(self.n)).map(|_| random.next() as u32).collect()
-    }
-
-    fn document(&self, ram: &[u8]) -> Monitor {
-        Monitor::set_up(ram, self.n, self.b, self.k).expect("numbers that fit")
-    }
-}
-
-/// Steps of one run, and how many of them were operations.
-fn steps(subject: &mut impl Subject, document: Monitor, random: &mut Random, seen: &mut Seen) -> Result<u64, String> {
-    let steps = 200 + random.below(1500);
-    let mut run = Run::new(subject, document, random, seen);
-    let mut operations = 0;
-    for _ in 0..steps {
-        operations += u64::from(run.step()?);
-    }
-    Ok(operations)
-}
-
-/// All that must be seen.
-fn possible() -> Seen {
-    let answers = REFUSALS.iter().flat_map(|(name, refusals)| {
-        std::iter::once(&0).chain(refusals.iter()).map(move |answer| format!("{name}: {answer}"))
-    });
-    let maps = (0..4).map(|tables| format!("map made {tables} tables"));
-    let refused = (0..3).map(|free| format!("map was refused with {free} free frames"));
-    let others = [
-        "give was refused the monitor's frame",
-        "give was refused a table",
-        "give was refused a page",
-        "give was refused a table that drains",
-        "give was refused a page that drains",
-        "take left a page draining",
-        "take left a page free",
-        "a page was got back",
-        "a guest's store: made",
-        "a guest's store: not made",
-        "a store by a kept translation: draining",
-        "a store by a kept translation: mapped",
-        "a store by a kept translation: no longer mapped",
-        "what another guest stored: read",
-    ];
-    answers.chain(maps).chain(refused).chain(others.map(String::from)).map(|name| (name, 0)).collect()
-}
+use document_03::Wrong;
+use run::Run;
+use seen::{possible, Seen};
+use shape::Shape;
 
 #[test]
 fn operations() {
@@ -111,8 +39,8 @@ fn operations() {
         let shape = Shape::new(random);
         let (mut ram, mut ledger) = (shape.ram(random), shape.ledger(random));
         let document = shape.document(&ram);
-        let mut subject = pageledger::Monitor::set_up(&mut ram, &mut ledger, shape.n, shape.b, shape.k).expect("numbers that fit");
-        match steps(&mut subject, document, random, &mut seen) {
+        let mut subject = shape.library(&mut ram, &mut ledger);
+        match Run::new(&mut subject, document, random, &mut seen).steps() {
             Ok(operations) => done += operations,
             Err(problem) => panic!("seed {seed}, run {runs} with {shape:x?}: {problem}"),
         }
@@ -138,7 +66,7 @@ fn noticed(wrong: Option<Wrong>, in_both: bool) -> Option<String> {
         let mut subject = shape.document(&document.ram);
         subject.wrong = wrong;
         document.wrong = wrong.filter(|_| in_both);
-        match steps(&mut subject, document, random, &mut Seen::new()) {
+        match Run::new(&mut subject, document, random, &mut Seen::new()).steps() {
             Ok(operations) => done += operations,
             Err(problem) => return Some(problem),
         }

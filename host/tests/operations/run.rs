@@ -2,13 +2,12 @@
 use crate::caches::{Caches, Translation};
 use crate::common::Random;
 use crate::document_03::{Kind, Monitor};
+use crate::list::{listed, pieces};
+use crate::seen::Seen;
 use crate::steps::{addresses, get_back, Operation, Steps};
 use crate::subject::{Frame, Subject};
 use pageledger::{Access, Answer};
-use std::collections::{BTreeMap, BTreeSet, VecDeque};
-
-/// How often each thing was seen.
-pub type Seen = BTreeMap<String, u64>;
+use std::collections::{BTreeSet, VecDeque};
 
 pub struct Run<'a, S> {
     pub subject: &'a mut S,
@@ -21,9 +20,11 @@ pub struct Run<'a, S> {
     plan: VecDeque<Operation>,
     /// The subject's RAM before the step.
     before: Vec<u8>,
+    /// Whether the list of an operation's stores is held to the document's; what is seen after each always is.
+    pub by_list: bool,
 }
 
-fn hold(holds: bool, problem: impl FnOnce() -> String) -> Result<(), String> {
+pub fn hold(holds: bool, problem: impl FnOnce() -> String) -> Result<(), String> {
     if holds { Ok(()) } else { Err(problem()) }
 }
 
@@ -42,7 +43,7 @@ impl<'a, S: Subject> Run<'a, S> {
     pub fn new(subject: &'a mut S, document: Monitor, random: &'a mut Random, seen: &'a mut Seen) -> Self {
         let caches = Caches::new(document.base, document.ram.len() as u64);
         let (addresses, before) = (addresses(random), subject.ram().to_vec());
-        Run { subject, document, caches, random, seen, addresses, plan: VecDeque::new(), before }
+        Run { subject, document, caches, random, seen, addresses, plan: VecDeque::new(), before, by_list: true }
     }
 
     /// A guest's store, one by a translation that was kept, or an operation. Whether it was an operation.
@@ -54,6 +55,15 @@ impl<'a, S: Subject> Run<'a, S> {
         }
         self.before.copy_from_slice(self.subject.ram());
         Ok(false)
+    }
+
+    /// Some hundreds of steps, and how many of them were operations.
+    pub fn steps(&mut self) -> Result<u64, String> {
+        let mut operations = 0;
+        for _ in 0..200 + self.random.below(1500) {
+            operations += u64::from(self.step()?);
+        }
+        Ok(operations)
     }
 
     fn count(&mut self, what: String) {
@@ -89,12 +99,13 @@ impl<'a, S: Subject> Run<'a, S> {
     }
 
     fn held(&mut self, operation: Operation, answer: u64, ledger: &[u32]) -> Result<(), String> {
-        let free = self.document.free();
+        let (free, frames) = (self.document.free(), self.document.frames.clone());
         let expected = self.follow(operation);
         hold(answer == expected, || format!("the document's answer is {expected}"))?;
         self.count_more(operation, answer, free);
         let taken = self.document.bad_choice;
         hold(taken.is_none(), || format!("frame {taken:?}, which was not free, was taken for a table"))?;
+        self.moments(&frames)?;
         if answer == 0 {
             self.effect(operation)?;
             self.state()?;
@@ -171,6 +182,33 @@ impl<'a, S: Subject> Run<'a, S> {
         self.document.run(operation, &choose)
     }
 
+    /// Inside the operation, where somebody has watched: after each single store the processor looks, and what guests reach is what
+    /// the frames allowed before the operation; tables are those after it. A new root is no guest's until create has answered.
+    fn moments(&mut self, frames: &[Kind]) -> Result<(), String> {
+        let Some(stores) = self.subject.stores() else { return Ok(()) };
+        if self.by_list {
+            listed(&self.document.stores, stores, self.document.base)?;
+        }
+        let (mut ram, mut moments, mut looks) = (self.before.clone(), 0, 0);
+        for piece in stores.iter().flat_map(pieces) {
+            ram[piece.0..][..piece.1.len()].copy_from_slice(piece.1);
+            moments += 1;
+            if !self.caches.finds(piece.0 as u64 / 4096) {
+                continue; // what the processor can find is as it was
+            }
+            looks += 1;
+            self.caches.look(&ram)?;
+            self.caches.isolated(|f| Frame::from(&frames[f as usize]))?;
+            self.caches.tables(|f| Subject::frame(&self.document, f))?;
+            self.caches.single()?;
+        }
+        let differs = difference(&ram, self.subject.ram());
+        hold(differs.is_none(), || format!("RAM is not what the stores make of it, first in frame {differs:?}"))?;
+        *self.seen.entry("moments after a store".into()).or_default() += moments;
+        *self.seen.entry("moments after a store to a table in use".into()).or_default() += looks;
+        Ok(())
+    }
+
     /// The whole state, and isolation.
     fn state(&mut self) -> Result<(), String> {
         let differs = difference(self.subject.ram(), &self.document.ram);
@@ -181,8 +219,11 @@ impl<'a, S: Subject> Run<'a, S> {
         for g in 1..=4 {
             same(|| format!("guest {g}"), self.subject.guest(g), Subject::guest(&self.document, g))?;
         }
-        self.caches.look(self.subject)?;
-        self.caches.isolated(self.subject)?;
+        self.caches.start([1, 2, 3, 4].map(|g| self.subject.guest(g).root));
+        self.caches.look(self.subject.ram())?;
+        self.caches.isolated(|f| self.subject.frame(f))?;
+        self.caches.tables(|f| self.subject.frame(f))?;
+        self.caches.single()?;
         if self.random.one_in(8) { self.places() } else { Ok(()) }
     }
 
@@ -206,7 +247,8 @@ impl<'a, S: Subject> Run<'a, S> {
     /// All addresses of all guests: the pages that the tables lead to are the places of the ledger.
     fn places(&mut self) -> Result<(), String> {
         let mut now = Caches::new(self.document.base, self.document.ram.len() as u64);
-        now.look(self.subject)?;
+        now.start([1, 2, 3, 4].map(|g| self.subject.guest(g).root));
+        now.look(self.subject.ram())?;
         for g in 1..=4 {
             let mapped: BTreeSet<_> = now.pages(g).iter().map(|t| (t.ipa, (t.address - self.document.base) / 4096)).collect();
             let pages = self.document.pages();

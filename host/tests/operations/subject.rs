@@ -15,6 +15,23 @@ pub enum Frame {
     Draining { of: u64 },
 }
 
+impl From<&Kind> for Frame {
+    fn from(kind: &Kind) -> Frame {
+        match kind {
+            Kind::Monitor => Frame::Monitor,
+            Kind::Free => Frame::Free,
+            Kind::Table { of } => Frame::Table { of: *of },
+            Kind::Draining { of, .. } => Frame::Draining { of: *of },
+            Kind::Page(page) => Frame::Page {
+                owner: page.owner,
+                readers: page.readers.clone(),
+                writers: page.writers.clone(),
+                places: page.places.len() as u64,
+            },
+        }
+    }
+}
+
 #[derive(Clone, Copy, Debug, PartialEq, Eq)]
 pub struct Guest {
     pub root: Option<u64>,
@@ -34,10 +51,21 @@ pub trait Subject {
     fn load(&self, g: u64, ipa: u64, bytes: &mut [u8]) -> bool;
     /// A store by a translation that the processor kept; the frame is a page, or drains and was one.
     fn store_kept(&mut self, f: u64, offset: usize, bytes: &[u8]);
+    /// The single stores to RAM of the last operation, where somebody has watched.
+    fn stores(&self) -> Option<&[Store]> {
+        None
+    }
+}
+
+/// Bytes that were stored at once, `at` bytes into RAM. None where what was stored depends on what was there.
+#[derive(Clone, Debug, PartialEq, Eq)]
+pub struct Store {
+    pub at: usize,
+    pub bytes: Vec<u8>,
 }
 
 fn number(answer: Result<(), Refusal>) -> u64 {
-    answer.map_or_else(|refusal| refusal as u64, |()| 0)
+    answer.map_or_else(|refusal| refusal.number(), |()| 0)
 }
 
 impl Subject for pageledger::Monitor<'_> {
@@ -45,9 +73,9 @@ impl Subject for pageledger::Monitor<'_> {
         number(match operation {
             Operation::Create { g } => self.create(g),
             Operation::Give { f, g } => self.give(f, g),
-            Operation::Map { f, g, a, r } => self.map(f, g, a, r),
+            Operation::Map { f, g, a, r } => self.map_raw(f, g, a, r),
             Operation::Unmap { a, g } => self.unmap(a, g),
-            Operation::Share { g, f, h, w } => self.share(g, f, h, w),
+            Operation::Share { g, f, h, w } => self.share_raw(g, f, h, w),
             Operation::Unshare { g, f, h } => self.unshare(g, f, h),
             Operation::Take { f, g } => self.take(f, g),
             Operation::Destroy { g } => self.destroy(g),
@@ -56,7 +84,8 @@ impl Subject for pageledger::Monitor<'_> {
     }
 
     fn ram(&self) -> &[u8] {
-        self.ram().bytes
+        // SAFETY: RAM is a test's own, and nothing writes it while it is looked at.
+        unsafe { self.image() }.bytes
     }
 
     fn ledger(&self) -> &[u32] {
@@ -94,14 +123,18 @@ impl Subject for pageledger::Monitor<'_> {
     }
 
     fn store_kept(&mut self, f: u64, offset: usize, bytes: &[u8]) {
-        // SAFETY: the caller's document says that it is a page, or was one.
-        let ram = unsafe { self.ram_mut() };
-        ram[4096 * f as usize + offset..][..bytes.len()].copy_from_slice(bytes);
+        assert!(offset + bytes.len() <= pageledger::FRAME_BYTES);
+        // SAFETY: the caller's document says that it is a page, or was one; and so it lies in RAM.
+        unsafe {
+            let to = self.ram_ptr().add(pageledger::FRAME_BYTES * f as usize + offset);
+            to.copy_from_nonoverlapping(bytes.as_ptr(), bytes.len());
+        }
     }
 }
 
 impl Monitor {
     pub fn run(&mut self, operation: Operation, choose: Choose) -> u64 {
+        self.stores.clear();
         let answer = match operation {
             Operation::Create { g } => self.create(g, choose),
             Operation::Give { f, g } => self.give(f, g),
@@ -142,18 +175,7 @@ impl Subject for Monitor {
     }
 
     fn frame(&self, f: u64) -> Frame {
-        match &self.frames[f as usize] {
-            Kind::Monitor => Frame::Monitor,
-            Kind::Free => Frame::Free,
-            Kind::Table { of } => Frame::Table { of: *of },
-            Kind::Draining { of, .. } => Frame::Draining { of: *of },
-            Kind::Page(page) => Frame::Page {
-                owner: page.owner,
-                readers: page.readers.clone(),
-                writers: page.writers.clone(),
-                places: page.places.len() as u64,
-            },
-        }
+        Frame::from(&self.frames[f as usize])
     }
 
     fn guest(&self, g: u64) -> Guest {

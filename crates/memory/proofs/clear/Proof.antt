@@ -3,15 +3,15 @@
 use Prim.Native.Nat.{_≤_, _-_, _+_}
 use mathlib.Core.Path.{_≡_, refl, ap, _∙_, sym}
 use lib.ListN.{length, length-set}
-use Rattle.memory.specs.Word.{clearedAt}
-use Rattle.memory.specs.Laws.{cleared-none, cleared-more}
+use Rattle.memory.specs.Word.{cleared-at}
+use Rattle.memory.proofs.Laws.Words.{cleared-none, cleared-more}
 use borrow.Author.Needs.{needs}
 use native.Mathlib.Omega.{arith}
 use Rattle.memory.proofs.clear.Statement.{statement}
 use Rattle.memory.proofs.clear.Tie as tie
 
 abbrev Inv-loop : tie.InvT-loop
-Inv-loop m₀ at n i₀ m i = (i ≤ n) × (length m ≡ length m₀) × (m ≡ clearedAt m₀ at i)
+Inv-loop m₀ at n i₀ m i = (i ≤ n) × (length m ≡ length m₀) × (m ≡ cleared-at m₀ at i)
 
 abbrev μ-loop : tie.MeasureT-loop
 μ-loop m₀ at n i₀ m i = n - i
@@ -38,7 +38,7 @@ same-length : tie.Need-same-length Inv-loop μ-loop
 same-length c = search needs
 
 returns : tie.Need-returns Inv-loop μ-loop
-returns c = c .before .loop .inv .2 ∙ ap (clearedAt _ _) (omega arith)
+returns c = c .before .loop .inv .2 ∙ ap (cleared-at _ _) (omega arith)
 
 pub clear-spec : {M : Type 1} → statement M
 clear-spec =

@@ -1,6 +1,6 @@
 -- Written by tools/prove from the file answers beside it: edit that, and not this.
 -- The sum is the definition's, with the bytes' places written out.
-use Rattle.memory.specs.Word.{wordAt}
+use Rattle.memory.specs.Word.{word-at}
 use borrow.Author.Needs.{needs}
 use Rattle.memory.proofs.first_word.Statement.{statement}
 use Rattle.memory.proofs.first_word.Tie as tie
@@ -96,7 +96,7 @@ add-result-7 : tie.Need-add-result-7
 add-result-7 c = search needs
 
 returns : tie.Need-returns
-unfolding wordAt
+unfolding word-at
 returns c = search needs
 
 pub first-word-spec : {M : Type 1} → statement M

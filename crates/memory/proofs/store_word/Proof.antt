@@ -1,7 +1,7 @@
 -- Written by tools/prove from the file answers beside it: edit that, and not this.
 -- Eight stores; none changes the length.
 use lib.ListN.{length-set}
-use Rattle.memory.specs.Word.{storedAt}
+use Rattle.memory.specs.Word.{stored-at}
 use borrow.Author.Needs.{needs}
 use native.Mathlib.Omega.{arith}
 use Rattle.memory.proofs.store_word.Statement.{statement}
@@ -80,7 +80,7 @@ same-length : tie.Need-same-length
 same-length c = search needs
 
 returns : tie.Need-returns
-unfolding storedAt
+unfolding stored-at
 returns c = simp (c .before .before .before .before .before .before .before .low .ensures, c .before .before .before .before .before .before .low2 .ensures, c .before .before .before .before .before .low3 .ensures, c .before .before .before .before .low4 .ensures, c .before .before .before .low5 .ensures, c .before .before .low6 .ensures, c .before .low7 .ensures, c .low8 .ensures)
 
 pub store-word-spec : {M : Type 1} → statement M

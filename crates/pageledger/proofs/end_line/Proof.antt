@@ -7,7 +7,7 @@ use Rattle.pageledger.proofs.end_line.Statement.{statement}
 use Rattle.pageledger.proofs.end_line.Tie as tie
 
 slice-aggregate-answer-line : tie.Need-slice-aggregate-answer-line
-slice-aggregate-answer-line c = sym (length-take-le (c .before .before .before .before .before .args .s .line) (c .before .before .before .before .before .args .line .now) (c .before .before .before .before .before .pre .gathered))
+slice-aggregate-answer-line c = sym (length-take-le (c .before .before .before .before .before .args .s .gathered) (c .before .before .before .before .before .args .line .now) (c .before .before .before .before .before .pre .gathered))
 
 sub-answer-line : tie.Need-sub-answer-line
 sub-answer-line c = search needs
@@ -21,11 +21,11 @@ part-answer-line-end c = search needs
 answer-line-requires : tie.Need-answer-line-requires
 answer-line-requires c κs = search needs
 
-add-flushed : tie.Need-add-flushed
-add-flushed c = search needs
+add-flush-if-full : tie.Need-add-flush-if-full
+add-flush-if-full c = search needs
 
-flushed-requires : tie.Need-flushed-requires
-flushed-requires c κs = search needs
+flush-if-full-requires : tie.Need-flush-if-full-requires
+flush-if-full-requires c κs = search needs
 
 same-length : tie.Need-same-length
 same-length c = search needs
@@ -48,8 +48,8 @@ end-line-spec =
     part-answer-line-start
     part-answer-line-end
     answer-line-requires
-    add-flushed
-    flushed-requires
+    add-flush-if-full
+    flush-if-full-requires
     same-length
     same-length-2
     same-length-3

@@ -1,7 +1,7 @@
 -- Written by tools/prove from the file answers beside it: edit that, and not this.
 -- The command's outcome, and its text.
 use mathlib.Core.Path.{refl}
-use Rattle.machine.specs.Laws.{tellable}
+use Rattle.script_machine.proofs.Laws.Printable.{printable}
 use borrow.Author.Needs.{needs}
 use native.Mathlib.Omega.{arith}
 use Rattle.script.proofs.answer_command.Statement.{statement}
@@ -11,7 +11,11 @@ execute-requires : tie.Need-execute-requires
 execute-requires c κs = search needs
 
 put-reply-requires : tie.Need-put-reply-requires
-put-reply-requires c κs = (c .before .before .before .before .before .before .before .before .execute .ensures .kept, tellable (c .before .before .before .before .before .before .before .before .execute .ensures), omega (arith, c .before .before .before .before .before .before .before .before .execute .ensures .kept .within, c .before .before .before .before .before .before .before .before .execute .kept))
+put-reply-requires c κs = (
+  c .before .before .before .before .before .before .before .before .execute .ensures .machine-sound,
+  printable (c .before .before .before .before .before .before .before .before .execute .ensures),
+  omega (arith, c .before .before .before .before .before .before .before .before .execute .ensures .machine-sound .within, c .before .before .before .before .before .before .before .before .execute .kept),
+)
 
 same-length : tie.Need-same-length
 same-length c = search needs
@@ -24,8 +28,8 @@ same-length-3 c = search needs
 
 returns : tie.Need-returns
 returns c = record {
-  did = (_, c .before .before .before .before .before .before .before .before .before .before .before .execute .ensures, c .before .before .put-reply .ensures .there);
-  kept = c .before .before .before .before .before .before .before .before .before .before .before .execute .ensures .kept;
+  effect = (_, c .before .before .before .before .before .before .before .before .before .before .before .execute .ensures, c .before .before .put-reply .ensures .there);
+  machine-sound = c .before .before .before .before .before .before .before .before .before .before .before .execute .ensures .machine-sound;
   short = omega (arith, c .before .before .put-reply .ensures .near);
 }
 

@@ -26,7 +26,7 @@ put-mistake-requires c κs = search needs
 
 returns : tie.Need-returns
 returns c = rw (sym (c .before .before .read-line .ensures) ∙ c .enum-told .given .1)
-    (record { did = (refl, refl, refl, refl); kept = c .before .before .before .before .before .before .before .pre .0; short = omega arith })
+    (record { effect = (refl, refl, refl, refl); machine-sound = c .before .before .before .before .before .before .before .pre .0; short = omega arith })
 
 same-length : tie.Need-same-length
 same-length c = search needs
@@ -46,8 +46,8 @@ same-length-4 c = search needs
 returns-3 : tie.Need-returns-3
 returns-3 c = rw (sym (c .before .before .before .before .before .before .before .read-line .ensures) ∙ c .before .before .before .before .before .why .given .1)
     (record {
-      did = (refl, refl, refl, c .before .before .put-mistake .ensures .there);
-      kept = c .before .before .before .before .before .before .before .before .before .before .before .before .pre .0;
+      effect = (refl, refl, refl, c .before .before .put-mistake .ensures .there);
+      machine-sound = c .before .before .before .before .before .before .before .before .before .before .before .before .pre .0;
       short = omega (arith, c .before .before .put-mistake .ensures .near);
     })
 

@@ -1,33 +1,30 @@
--- The public answer of stage 2 where the numbers fit (document 01, sections 1 and 5): the walk's result, and how many descriptors were fetched.
-use Prim.Native.Nat.{ℕ, _+_, _*_, _^_, _%_, _≤_, _<_}
+-- The public answer of stage 2 where the numbers fit (document 01, sections 1 and 5): the walk's result, and how many descriptors were
+-- fetched.
+use Prim.Native.Nat.{ℕ, _*_, _%_, _<_}
 use mathlib.Core.Path.{_≡_}
 use mathlib.Core.List.{List}
-use borrow.Author.Tests.{lt-ltb, le-leb, eq-eqb}
+use borrow.Author.Tests.{lt-ltb, eq-eqb}
 use lib.ListN.{length}
+use Rattle.memory.specs.Ram.{frame-bytes, address-end}
+use Rattle.memory.proofs.Laws.Ram.{Ram-fits, fits}
+use Rattle.walk_descriptor.specs.Descriptor.{kinds-of-access}
 use Rattle.walk.specs.Memory.{image-fits}
-use Rattle.walk.specs.Both.{stage-2, root-fits, stage2-fits, tell-2, answer-2}
+use Rattle.walk.specs.Both.{stage-2, root-fits, stage2-fits, as-answer-2, answer-2}
 
--- section 1: "n frames of 4,096 bytes, 16 <= n <= 65,536, from physical address b, a multiple of 4,096 with b + 4,096 n <= 2^48"
-pub record Fitting (m : List ℕ) (b n : ℕ) : Type 0 where
-  pub least : 16 ≤ n
-  pub most : n ≤ 65536
-  pub aligned : b % 4096 ≡ 0
-  pub low : b + 4096 * n ≤ 2 ^ 48
-  pub long : length m ≡ 4096 * n
+pub record Fitting (m : List ℕ) (base frames : ℕ) : Type 0 where
+  pub ram : Ram-fits base frames
+  pub long : length m ≡ frame-bytes * frames
 
 module _ (m : List ℕ) (b n : ℕ) (x : Fitting m b n) (root ipa access : ℕ) where
-  pub answer-2-is : root % 4096 ≡ 0 → root < 2 ^ 48 → access < 3 → ipa < 2 ^ 48
-      → answer-2 m b n root ipa access ≡ tell-2 (stage-2 m b root access ipa .result) (length (stage-2 m b root access ipa .fetched))
+  pub answer-2-is : root % frame-bytes ≡ 0 → root < address-end → access < kinds-of-access → ipa < address-end
+      → answer-2 m b n root ipa access ≡ as-answer-2 (stage-2 m b root access ipa .result) (length (stage-2 m b root access ipa .fetched))
   unfolding answer-2 stage2-fits image-fits root-fits
   answer-2-is ra rl al il =
       rw (
-        le-leb 16 n (x .least),
-        le-leb n 65536 (x .most),
-        eq-eqb (b % 4096) 0 (x .aligned),
-        le-leb (b + 4096 * n) (2 ^ 48) (x .low),
-        eq-eqb (length m) (4096 * n) (x .long),
-        eq-eqb (root % 4096) 0 ra,
-        lt-ltb root (2 ^ 48) rl,
-        lt-ltb access 3 al,
-        lt-ltb ipa (2 ^ 48) il,
+        fits b n (x .ram),
+        eq-eqb (length m) (frame-bytes * n) (x .long),
+        eq-eqb (root % frame-bytes) 0 ra,
+        lt-ltb root address-end rl,
+        lt-ltb access kinds-of-access al,
+        lt-ltb ipa address-end il,
       )

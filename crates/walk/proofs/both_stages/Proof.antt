@@ -3,7 +3,7 @@
 use mathlib.Core.Path.{_∙_, sym}
 use Rattle.walk.specs.Both.{answer}
 use Rattle.walk.proofs.Laws.Bounds.{both-roots}
-use Rattle.walk.proofs.Laws.Told.{tells-whole}
+use Rattle.walk.proofs.Laws.Counts.{count-whole}
 use borrow.Author.Needs.{needs}
 use Rattle.walk.proofs.both_stages.Statement.{statement}
 use Rattle.walk.proofs.both_stages.Tie as tie
@@ -19,7 +19,7 @@ unfolding answer
 returns c = simp (
   sym (c .before .before .fits-both .ensures),
   c .before .if1 .taken,
-) (c .both .ensures ∙ tells-whole _ _)
+) (c .both .ensures ∙ count-whole _ _)
 
 returns-2 : tie.Need-returns-2
 unfolding answer

@@ -15,7 +15,7 @@ same-length : tie.Need-same-length
 same-length c = search needs
 
 returns : tie.Need-returns
-returns c = (c .before .before .tell-frame .ensures .0, simp (sym (c .before .before .before .what-frame .ensures)) (c .before .before .tell-frame .ensures .1))
+returns c = simp (sym (c .before .before .before .what-frame .ensures)) (c .before .before .tell-frame .ensures)
 
 pub pageledger-frame-spec : {M : Type 1} → statement M
 pageledger-frame-spec =

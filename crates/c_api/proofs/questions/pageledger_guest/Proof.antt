@@ -15,7 +15,7 @@ same-length : tie.Need-same-length
 same-length c = search needs
 
 returns : tie.Need-returns
-returns c = (c .before .before .tell-guest .ensures .0, simp (sym (c .before .before .before .what-guest .ensures)) (c .before .before .tell-guest .ensures .1))
+returns c = simp (sym (c .before .before .before .what-guest .ensures)) (c .before .before .tell-guest .ensures)
 
 pub pageledger-guest-spec : {M : Type 1} → statement M
 pageledger-guest-spec =

@@ -8,20 +8,20 @@ use Rattle.c_api.proofs.questions.pageledger_translation.Tie as tie
 translation-requires : tie.Need-translation-requires
 translation-requires c κs = search needs
 
-tell-requires : tie.Need-tell-requires
-tell-requires c κs = search needs
+tell-walk-requires : tie.Need-tell-walk-requires
+tell-walk-requires c κs = search needs
 
 same-length : tie.Need-same-length
 same-length c = search needs
 
 returns : tie.Need-returns
-returns c = (c .before .before .tell .ensures .0, simp (sym (c .before .before .before .translation .ensures)) (c .before .before .tell .ensures .1))
+returns c = simp (sym (c .before .before .before .translation .ensures)) (c .before .before .tell-walk .ensures)
 
 pub pageledger-translation-spec : {M : Type 1} → statement M
 pageledger-translation-spec =
     tie.close
     (tie.spec
     translation-requires
-    tell-requires
+    tell-walk-requires
     same-length
     returns)

@@ -8,20 +8,20 @@ use Rattle.c_api.proofs.walks.pageledger_both_stages.Tie as tie
 both-stages-requires : tie.Need-both-stages-requires
 both-stages-requires c κs = search needs
 
-tell-requires : tie.Need-tell-requires
-tell-requires c κs = search needs
+tell-walk-requires : tie.Need-tell-walk-requires
+tell-walk-requires c κs = search needs
 
 same-length : tie.Need-same-length
 same-length c = search needs
 
 returns : tie.Need-returns
-returns c = (c .before .before .tell .ensures .0, simp (sym (c .before .before .before .both-stages .ensures)) (c .before .before .tell .ensures .1))
+returns c = simp (sym (c .before .before .before .both-stages .ensures)) (c .before .before .tell-walk .ensures)
 
 pub pageledger-both-stages-spec : {M : Type 1} → statement M
 pageledger-both-stages-spec =
     tie.close
     (tie.spec
     both-stages-requires
-    tell-requires
+    tell-walk-requires
     same-length
     returns)

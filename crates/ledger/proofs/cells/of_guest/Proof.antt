@@ -3,7 +3,8 @@
 use mathlib.Core.Path.{_≡_, ap, _∙_}
 use Prim.Native.Nat.{ℕ, _+_, _*_}
 use lib.ListN.{getD}
-use Rattle.ledger.specs.Cells.{cell-at}
+use Rattle.ledger.specs.Columns.{ROW-WORDS, GUEST-ROWS}
+use Rattle.ledger.proofs.Laws.Cells.{cell-at}
 use borrow.Author.Needs.{needs}
 use native.Mathlib.Omega.{arith}
 use Rattle.ledger.proofs.cells.of_guest.Statement.{statement}
@@ -22,11 +23,14 @@ shared-slice-read-result : tie.Need-shared-slice-read-result
 shared-slice-read-result c = search needs
 
 cast-result : tie.Need-cast-result
-cast-result c = omega (arith, c .shared-slice-known .given (16 * c .before .args .g + c .before .args .column))
+cast-result c = omega (arith, c .shared-slice-known .given (ROW-WORDS * c .before .args .g + c .before .args .column))
 
 returns : tie.Need-returns
-returns c = let at : 16 * c .before .args .g + c .before .args .column ≡ 0 + 16 * c .before .args .g + c .before .args .column = omega arith in
-    (ap (λ (x : ℕ). getD (c .before .args .ledger .now) x 0) at ∙ cell-at 0 9 (c .before .args .ledger .now) (c .before .args .column) (c .before .args .g) (c .before .pre .0) (c .before .pre .1), omega (arith, c .shared-slice-known .given (16 * c .before .args .g + c .before .args .column)))
+returns c = let at : ROW-WORDS * c .before .args .g + c .before .args .column ≡ 0 + ROW-WORDS * c .before .args .g + c .before .args .column = omega arith in (
+  ap (λ (x : ℕ). getD (c .before .args .ledger .now) x 0) at ∙ cell-at 0 GUEST-ROWS (c .before .args .ledger .now) (c .before .args .column) (c .before .args .g)
+      (c .before .pre .0) (c .before .pre .1),
+  omega (arith, c .shared-slice-known .given (ROW-WORDS * c .before .args .g + c .before .args .column)),
+)
 
 pub of-guest-spec : {M : Type 1} → statement M
 of-guest-spec =

@@ -3,6 +3,7 @@
 use mathlib.Core.Path.{_≡_, ap}
 use Prim.Native.Nat.{ℕ, _+_, _*_}
 use lib.ListN.{set}
+use Rattle.ledger.specs.Columns.{ROW-WORDS}
 use Rattle.ledger.specs.Cells.{store}
 use borrow.Author.Needs.{needs}
 use native.Mathlib.Omega.{arith}
@@ -29,7 +30,7 @@ same-length c = search needs
 
 returns : tie.Need-returns
 unfolding store
-returns c = let at : 16 * c .args .g + c .args .column ≡ 0 + 16 * c .args .g + c .args .column = omega arith in
+returns c = let at : ROW-WORDS * c .args .g + c .args .column ≡ 0 + ROW-WORDS * c .args .g + c .args .column = omega arith in
     ap (λ (x : ℕ). set (c .args .ledger .now) x (c .args .v)) at
 
 pub store-of-guest-spec : {M : Type 1} → statement M

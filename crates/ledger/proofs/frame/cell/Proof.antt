@@ -1,8 +1,8 @@
 -- Written by tools/prove from the file answers beside it: edit that, and not this.
 -- The cell of a guest is there, and is two numbers.
-use Rattle.ledger.specs.Laws.{guest-low, cell-is}
+use Rattle.ledger.proofs.Laws.Fields.{guest-low, cell-is}
 use Rattle.ledger.specs.Layout.{frames}
-use Rattle.ledger.specs.Stores.{row-low}
+use Rattle.ledger.proofs.Laws.Stores.{row-low}
 use native.Mathlib.Omega.{arith}
 use Rattle.ledger.proofs.frame.cell.Statement.{statement}
 use Rattle.ledger.proofs.frame.cell.Tie as tie

@@ -4,9 +4,9 @@ use mathlib.Core.Path.{_≡_, refl}
 use Prim.Native.Nat.{ℕ, _-_, _+_, _≤_}
 use lib.ListN.{length}
 use Rattle.model.specs.State.{guests}
-use Rattle.ledger.specs.Laws.{guest-is, unshared-to}
-use Rattle.ledger.specs.Stock.{Changed}
-use Rattle.ledger.specs.Stores.{unshared-none, unshared-low, unshared-more, unshared-all}
+use Rattle.ledger.proofs.Laws.Fields.{guest-is, unshared-to}
+use Rattle.ledger.specs.LedgerSound.{Changed}
+use Rattle.ledger.proofs.Laws.Stores.{unshared-none, unshared-low, unshared-more, unshared-all}
 use borrow.Author.Needs.{needs}
 use native.Mathlib.Omega.{arith}
 use Rattle.ledger.proofs.frame.clear_shares.Statement.{statement}
@@ -26,7 +26,7 @@ add-g c = search needs
 
 set-share-requires : tie.Need-set-share-requires Inv-loop μ-loop
 set-share-requires c κs = (
-  c .before .before .loop .inv .1 .stock,
+  c .before .before .loop .inv .1 .ledger-sound,
   (
     unshared-low (c .before .before .before .before .args .ledger .now) (c .before .before .before .before .pre .0) (c .before .before .before .before .args .f) (c .before .before .before .before .pre .1) _ _ (c .before .before .loop .inv .1),
     (guest-is (c .before .before .loop .g + 1) (λ e. omega arith) (omega arith), omega arith),

@@ -1,7 +1,7 @@
 -- Written by tools/prove from the file answers beside it: edit that, and not this.
 -- The stored number, where it is one of six.
 use Rattle.ledger.specs.Layout.{frames, guest-rows}
-use Rattle.ledger.specs.Kinds.{sort-here}
+use Rattle.ledger.proofs.Laws.Kinds.{number-here}
 use borrow.Author.Needs.{needs}
 use mathlib.Core.Path.{sym}
 use borrow.Author.Tests.{lt-ltb, lt-leb, le-leb, le-ltb}
@@ -16,7 +16,8 @@ returns c = simp (
   sym (c .before .of-frame .ensures .0),
   lt-ltb _ _ (c .if1 .taken),
   lt-leb _ _ (c .if1 .taken),
-  sort-here (frames (c .before .before .before .args .ledger .now)) (guest-rows (c .before .before .before .args .ledger .now)) (c .before .before .before .args .f) (c .before .before .before .pre .1),
+  number-here (frames (c .before .before .before .args .ledger .now)) (guest-rows (c .before .before .before .args .ledger .now)) (c .before .before .before .args .f)
+      (c .before .before .before .pre .1),
 )
 
 returns-2 : tie.Need-returns-2
@@ -24,7 +25,8 @@ returns-2 c = simp (
   sym (c .before .of-frame .ensures .0),
   le-leb _ _ (c .if1 .left),
   le-ltb _ _ (c .if1 .left),
-  sort-here (frames (c .before .before .before .args .ledger .now)) (guest-rows (c .before .before .before .args .ledger .now)) (c .before .before .before .args .f) (c .before .before .before .pre .1),
+  number-here (frames (c .before .before .before .args .ledger .now)) (guest-rows (c .before .before .before .args .ledger .now)) (c .before .before .before .args .f)
+      (c .before .before .before .pre .1),
 )
 
 pub kind-spec : {M : Type 1} → statement M

@@ -1,7 +1,7 @@
 -- Written by tools/prove from the file answers beside it: edit that, and not this.
 -- The stored guest, where the kind has one.
 use mathlib.Core.Path.{_∙_}
-use Rattle.ledger.specs.Kinds.{nobody-here, guest-here}
+use Rattle.ledger.proofs.Laws.Kinds.{nobody-here, guest-here}
 use borrow.Author.Needs.{needs}
 use Rattle.ledger.proofs.frame.owner.Statement.{statement}
 use Rattle.ledger.proofs.frame.owner.Tie as tie

@@ -3,15 +3,17 @@
 use Prim.Native.Nat.{ℕ, _-_, _+_, _*_, _≤_}
 use mathlib.Core.Path.{_≡_}
 use Rattle.model.specs.State.{guests}
+use Rattle.ledger.specs.Columns.{SHARE-UNIT}
 use Rattle.ledger.specs.Layout.{shared-of, count-of}
-use Rattle.ledger.specs.Laws.{guest-is, so-far, none-yet, one-more, all-told}
+use Rattle.ledger.proofs.Laws.Fields.{guest-is, so-far, none-yet, one-more, all-told}
 use borrow.Author.Needs.{needs}
 use native.Mathlib.Omega.{arith}
 use Rattle.ledger.proofs.frame.uses.Statement.{statement}
 use Rattle.ledger.proofs.frame.uses.Tie as tie
 
 abbrev Inv-loop : tie.InvT-loop
-Inv-loop ledger f places₀ shares₀ g₀ places shares g = (g ≤ guests) × (places ≡ so-far (count-of ledger f) g) × (shares ≡ so-far (shared-of ledger f) g) × (places ≤ 1073741824 * g) × (shares ≤ 4 * g)
+Inv-loop ledger f places₀ shares₀ g₀ places shares g = (g ≤ guests) × (places ≡ so-far (count-of ledger f) g) × (shares ≡ so-far (shared-of ledger f) g) × (places ≤ SHARE-UNIT * g) ×
+    (shares ≤ 4 * g)
 
 abbrev μ-loop : tie.MeasureT-loop
 μ-loop ledger f places₀ shares₀ g₀ places shares g = guests - g

@@ -3,6 +3,7 @@
 use mathlib.Core.Path.{ap}
 use Prim.Native.Nat.{ℕ}
 use lib.Dec.{eqb}
+use Rattle.ledger.specs.Columns.{YES}
 use Rattle.ledger.specs.Layout.{dirty-in}
 use borrow.Author.Needs.{needs}
 use Rattle.ledger.proofs.guest.dirty.Statement.{statement}
@@ -13,7 +14,7 @@ of-guest-requires c κs = search needs
 
 returns : tie.Need-returns
 unfolding dirty-in
-returns c = ap (λ (x : ℕ). eqb x 1) (c .of-guest .ensures .0)
+returns c = ap (λ (x : ℕ). eqb x YES) (c .of-guest .ensures .0)
 
 pub dirty-spec : {M : Type 1} → statement M
 dirty-spec = tie.close (tie.spec of-guest-requires returns)

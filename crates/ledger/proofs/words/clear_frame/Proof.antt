@@ -2,7 +2,7 @@
 -- 4,096 bytes are 512 words.
 use mathlib.Core.Path.{_∙_, ap}
 use Rattle.ledger.specs.Layout.{word-of}
-use Rattle.ledger.specs.Words.{word-cleared}
+use Rattle.ledger.proofs.Laws.Words.{word-cleared}
 use borrow.Author.Needs.{needs}
 use Rattle.ledger.proofs.words.clear_frame.Statement.{statement}
 use Rattle.ledger.proofs.words.clear_frame.Tie as tie

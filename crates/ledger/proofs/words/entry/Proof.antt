@@ -1,7 +1,7 @@
 -- Written by tools/prove from the file answers beside it: edit that, and not this.
 -- The word at the place is the frame's.
 use mathlib.Core.Path.{_∙_}
-use Rattle.ledger.specs.Words.{word-is}
+use Rattle.ledger.proofs.Laws.Words.{word-is}
 use borrow.Author.Needs.{needs}
 use Rattle.ledger.proofs.words.entry.Statement.{statement}
 use Rattle.ledger.proofs.words.entry.Tie as tie

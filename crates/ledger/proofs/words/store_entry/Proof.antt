@@ -2,7 +2,7 @@
 -- One store.
 use mathlib.Core.Path.{_∙_, ap}
 use Rattle.ledger.specs.Layout.{word-of}
-use Rattle.ledger.specs.Words.{word-stored}
+use Rattle.ledger.proofs.Laws.Words.{word-stored}
 use borrow.Author.Needs.{needs}
 use native.Mathlib.Omega.{arith}
 use Rattle.ledger.proofs.words.store_entry.Statement.{statement}
@@ -24,7 +24,8 @@ same-length : tie.Need-same-length
 same-length c = search needs
 
 returns : tie.Need-returns
-returns c = ap word-of (c .before .before .store-word .ensures) ∙ word-stored (c .before .before .before .before .before .args .ram .now) (c .before .before .before .before .before .args .f) (c .before .before .before .before .before .pre .2) (c .before .before .before .before .before .args .i) (c .before .before .before .before .before .args .x) (c .before .before .before .before .before .pre .0) (omega arith)
+returns c = ap word-of (c .before .before .store-word .ensures) ∙ word-stored (c .before .before .before .before .before .args .ram .now) (c .before .before .before .before .before .args .f) (c .before .before .before .before .before .pre .2) (c .before .before .before .before .before .args .i) (c .before .before .before .before .before .args .x) (c .before .before .before .before .before .pre .0)
+    (omega arith)
 
 pub store-entry-spec : {M : Type 1} → statement M
 store-entry-spec =

@@ -1,64 +1,36 @@
 -- Written by tools/prove from the file answers beside it: edit that, and not this.
--- Each test is one of the definition's.
-use Rattle.monitor.specs.SetUp.{few-frames, many-frames, uneven, too-high, none-left, bad-ram, bad-ledger, fits-all}
+-- The definition's three tests, in another order.
+use mathlib.Core.Path.{_∙_, sym}
+use Rattle.monitor.proofs.Laws.SetUp.{bad-place, few-enough, none-left, bad-slices, fits-all}
 use borrow.Author.Needs.{needs}
-use native.Mathlib.Omega.{arith}
 use Rattle.monitor.proofs.start.check_set_up.Statement.{statement}
 use Rattle.monitor.proofs.start.check_set_up.Tie as tie
 
+ram-fits-requires : tie.Need-ram-fits-requires
+ram-fits-requires c κs = search needs
+
+slices-fit-requires : tie.Need-slices-fit-requires
+slices-fit-requires c κs = few-enough _ _ ((sym (c .before .before .ram-fits .ensures) ∙ c .before .if1 .taken))
+
 returns : tie.Need-returns
-returns c = few-frames _ _ _ _ _ (c .if1 .taken)
+returns c = fits-all _ _ _ _ _ (sym (c .before .slices-fit .ensures) ∙ c .if3 .taken) ((sym (c .before .before .before .before .ram-fits .ensures) ∙ c .before .before .before .if1 .taken)) (c .before .before .if2 .taken)
 
 returns-2 : tie.Need-returns-2
-returns-2 c = many-frames _ _ _ _ _ (c .if2 .taken)
+returns-2 c = bad-slices _ _ _ _ _ (sym (c .before .slices-fit .ensures) ∙ c .if3 .left)
 
 returns-3 : tie.Need-returns-3
-returns-3 c = uneven _ _ _ _ _ (c .if3 .taken)
-
-mul-if4 : tie.Need-mul-if4
-mul-if4 c = search needs
-
-sub-if4 : tie.Need-sub-if4
-sub-if4 c = search needs
+returns-3 c = none-left _ _ _ _ _ (c .if2 .left)
 
 returns-4 : tie.Need-returns-4
-returns-4 c = too-high _ _ _ _ _ (omega (arith, c .if4 .taken, c .before .before .if2 .left))
-
-returns-5 : tie.Need-returns-5
-returns-5 c = none-left _ _ _ _ _ (c .if5 .taken)
-
-mul-if6 : tie.Need-mul-if6
-mul-if6 c = search needs
-
-returns-6 : tie.Need-returns-6
-returns-6 c = bad-ram _ _ _ _ _ (c .if6 .taken)
-
-mul-if7 : tie.Need-mul-if7
-mul-if7 c = search needs
-
-add-if7 : tie.Need-add-if7
-add-if7 c = search needs
-
-returns-7 : tie.Need-returns-7
-returns-7 c = bad-ledger _ _ _ _ _ (c .if7 .taken)
-
-returns-8 : tie.Need-returns-8
-returns-8 c = fits-all _ _ _ _ _ (c .before .if6 .left) (c .if7 .left) (c .before .before .before .before .before .before .if1 .left) (c .before .before .before .before .before .if2 .left) (c .before .before .before .before .if3 .left) (omega (arith, c .before .before .before .if4 .left, c .before .before .before .before .before .if2 .left)) (c .before .before .if5 .left)
+returns-4 c = bad-place _ _ _ _ _ (sym (c .before .ram-fits .ensures) ∙ c .if1 .left)
 
 pub check-set-up-spec : {M : Type 1} → statement M
 check-set-up-spec =
     tie.close
     (tie.spec
+    ram-fits-requires
+    slices-fit-requires
     returns
     returns-2
     returns-3
-    mul-if4
-    sub-if4
-    returns-4
-    returns-5
-    mul-if6
-    returns-6
-    mul-if7
-    add-if7
-    returns-7
-    returns-8)
+    returns-4)

@@ -1,7 +1,7 @@
 -- Written by tools/prove from the file answers beside it: edit that, and not this.
 -- Check, then do.
 use mathlib.Core.Path.{_∙_, sym}
-use Rattle.monitor.specs.SetUp.{set-up-refused, set-up-ready, set-up-end}
+use Rattle.monitor.proofs.Laws.SetUp.{set-up-refused, set-up-ready, set-up-end}
 use borrow.Author.Needs.{needs}
 use Rattle.monitor.proofs.start.set_up.Statement.{statement}
 use Rattle.monitor.proofs.start.set_up.Tie as tie

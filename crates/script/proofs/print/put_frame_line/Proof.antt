@@ -1,8 +1,8 @@
 -- Written by tools/prove from the file answers beside it: edit that, and not this.
 -- The slices have the machine's parts.
-use Rattle.machine.specs.Laws.{ram-part, ledger-part}
-use Rattle.script.specs.Line.{replyText}
-use Rattle.text.proofs.Printing.{wrote-then}
+use Rattle.script_machine.proofs.Laws.Parts.{ram-part, ledger-part}
+use Rattle.script.specs.Printed.{reply-text}
+use Rattle.script_text.proofs.Laws.Printing.{wrote-then}
 use borrow.Author.Needs.{needs}
 use native.Mathlib.Omega.{arith}
 use Rattle.script.proofs.print.put_frame_line.Statement.{statement}
@@ -26,15 +26,15 @@ slice-aggregate-put-frame-2 c = ledger-part (c .before .before .before .before .
 put-frame-requires : tie.Need-put-frame-requires
 put-frame-requires c κs = (c .before .before .before .before .before .before .before .before .pre .0 .sound (c .before .before .before .before .before .before .before .before .pre .1), omega arith)
 
-put-end-requires : tie.Need-put-end-requires
-put-end-requires c κs = search needs
+put-line-end-requires : tie.Need-put-line-end-requires
+put-line-end-requires c κs = search needs
 
 same-length : tie.Need-same-length
 same-length c = search needs
 
 returns : tie.Need-returns
-unfolding replyText
-returns c = wrote-then (c .before .before .before .before .before .before .put-frame .ensures) (c .before .before .put-end .ensures)
+unfolding reply-text
+returns c = wrote-then (c .before .before .before .before .before .before .put-frame .ensures) (c .before .before .put-line-end .ensures)
 
 pub put-frame-line-spec : {M : Type 1} → statement M
 put-frame-line-spec =
@@ -46,6 +46,6 @@ put-frame-line-spec =
     slice-aggregate-put-frame
     slice-aggregate-put-frame-2
     put-frame-requires
-    put-end-requires
+    put-line-end-requires
     same-length
     returns)

@@ -1,7 +1,8 @@
 -- Written by tools/prove from the file answers beside it: edit that, and not this.
 -- Part after part, and the line's end.
-use Rattle.script.specs.Line.{mistakeText}
-use Rattle.text.proofs.Printing.{wrote-then, wrote-within}
+use Rattle.script_print.specs.Answer.{name-bytes}
+use Rattle.script.specs.Printed.{mistake-text}
+use Rattle.script_text.proofs.Laws.Printing.{wrote-then, wrote-within}
 use borrow.Author.Needs.{needs}
 use native.Mathlib.Omega.{arith}
 use Rattle.script.proofs.print.put_mistake.Statement.{statement}
@@ -19,17 +20,17 @@ reason-text-requires c κs = search needs
 put-text-requires : tie.Need-put-text-requires
 put-text-requires c κs = search needs
 
-put-end-requires : tie.Need-put-end-requires
-put-end-requires c κs = search needs
+put-line-end-requires : tie.Need-put-line-end-requires
+put-line-end-requires c κs = search needs
 
 same-length : tie.Need-same-length
 same-length c = search needs
 
 returns : tie.Need-returns
-unfolding mistakeText
+unfolding mistake-text
 returns c = wrote-then
-    (wrote-then (c .before .before .before .before .before .before .before .before .before .before .before .put .ensures) (wrote-within {b = 20} (c .before .before .before .before .before .before .put-text .ensures) (omega arith) (c .before .before .before .before .before .before .before .reason-text .ensures .same)))
-    (c .before .before .put-end .ensures)
+    (wrote-then (c .before .before .before .before .before .before .before .before .before .before .before .put .ensures) (wrote-within {b = name-bytes} (c .before .before .before .before .before .before .put-text .ensures) (omega arith) (c .before .before .before .before .before .before .before .reason-text .ensures .same)))
+    (c .before .before .put-line-end .ensures)
 
 pub put-mistake-spec : {M : Type 1} → statement M
 put-mistake-spec =
@@ -39,6 +40,6 @@ put-mistake-spec =
     put-requires
     reason-text-requires
     put-text-requires
-    put-end-requires
+    put-line-end-requires
     same-length
     returns)

@@ -3,21 +3,21 @@
 use mathlib.Core.Path.{_≡_}
 use mathlib.Core.Bool.{true}
 use Prim.Native.Nat.{ℕ}
-use Rattle.machine.specs.declared.Machine.{Machine}
-use Rattle.machine.specs.declared.Reply.{Reply}
-use Rattle.machine.specs.declared.Reply.the-variants.{Frame, Ledger}
-use Rattle.machine.specs.Laws.{Tellable}
-use Rattle.script.specs.Line.{replyText}
-use Rattle.text.proofs.Printing.{wrote-then, wrote-within}
+use Rattle.script_machine.specs.declared.Machine.{Machine}
+use Rattle.script_machine.specs.declared.Reply.{Reply}
+use Rattle.script_machine.specs.declared.Reply.the-variants.{Frame, Ledger}
+use Rattle.script_machine.specs.Printable.{Printable}
+use Rattle.script.specs.Printed.{reply-text}
+use Rattle.script_text.proofs.Laws.Printing.{wrote-then, wrote-within}
 use borrow.Author.Needs.{needs}
 use native.Mathlib.Omega.{arith}
 use Rattle.script.proofs.print.put_reply.Statement.{statement}
 use Rattle.script.proofs.print.put_reply.Tie as tie
 
-frame-ready : (m : Machine) (x : Reply) (f : ℕ) → x ≡ Frame f → Tellable m x → m .ready ≡ true
+frame-ready : (m : Machine) (x : Reply) (f : ℕ) → x ≡ Frame f → Printable m x → m .ready ≡ true
 frame-ready m x f e t = rw e at t
 
-ledger-ready : (m : Machine) (x : Reply) → x ≡ Ledger → Tellable m x → m .ready ≡ true
+ledger-ready : (m : Machine) (x : Reply) → x ≡ Ledger → Printable m x → m .ready ≡ true
 ledger-ready m x e t = rw e at t
 
 enum-told : tie.Need-enum-told
@@ -44,8 +44,8 @@ enum-known-reply c = search needs
 put-decimal-requires : tie.Need-put-decimal-requires
 put-decimal-requires c κs = search needs
 
-put-end-requires : tie.Need-put-end-requires
-put-end-requires c κs = search needs
+put-line-end-requires : tie.Need-put-line-end-requires
+put-line-end-requires c κs = search needs
 
 enum-known-reply-2 : tie.Need-enum-known-reply-2
 enum-known-reply-2 c = search needs
@@ -53,8 +53,8 @@ enum-known-reply-2 c = search needs
 put-word-requires : tie.Need-put-word-requires
 put-word-requires c κs = search needs
 
-put-end-requires-2 : tie.Need-put-end-requires-2
-put-end-requires-2 c κs = search needs
+put-line-end-requires-2 : tie.Need-put-line-end-requires-2
+put-line-end-requires-2 c κs = search needs
 
 enum-known-reply-3 : tie.Need-enum-known-reply-3
 enum-known-reply-3 c = search needs
@@ -62,8 +62,8 @@ enum-known-reply-3 c = search needs
 put-answer-requires : tie.Need-put-answer-requires
 put-answer-requires c κs = search needs
 
-put-end-requires-3 : tie.Need-put-end-requires-3
-put-end-requires-3 c κs = search needs
+put-line-end-requires-3 : tie.Need-put-line-end-requires-3
+put-line-end-requires-3 c κs = search needs
 
 enum-known-reply-4 : tie.Need-enum-known-reply-4
 enum-known-reply-4 c = search needs
@@ -77,8 +77,8 @@ enum-known-reply-5 c = search needs
 put-guest-requires : tie.Need-put-guest-requires
 put-guest-requires c κs = search needs
 
-put-end-requires-4 : tie.Need-put-end-requires-4
-put-end-requires-4 c κs = search needs
+put-line-end-requires-4 : tie.Need-put-line-end-requires-4
+put-line-end-requires-4 c κs = search needs
 
 enum-told-3 : tie.Need-enum-told-3
 enum-told-3 c = search needs
@@ -99,36 +99,36 @@ same-length : tie.Need-same-length
 same-length c = search needs
 
 returns : tie.Need-returns
-unfolding replyText
+unfolding reply-text
 returns c = wrote-within (c .before .before .put .ensures) (omega arith) (rw (c .before .before .before .before .before .enum-told .given .1))
 
 same-length-2 : tie.Need-same-length-2
 same-length-2 c = search needs
 
 returns-2 : tie.Need-returns-2
-unfolding replyText
+unfolding reply-text
 returns-2 c = wrote-within (c .before .before .put2 .ensures) (omega arith) (rw (c .before .before .before .before .before .enum-told2 .given .1))
 
 same-length-3 : tie.Need-same-length-3
 same-length-3 c = search needs
 
 returns-3 : tie.Need-returns-3
-unfolding replyText
-returns-3 c = wrote-within (wrote-then (c .before .before .before .before .before .before .put-decimal .ensures) (c .before .before .put-end .ensures)) (omega arith) (rw (c .before .before .before .before .before .before .before .before .before .reply .given .1))
+unfolding reply-text
+returns-3 c = wrote-within (wrote-then (c .before .before .before .before .before .before .put-decimal .ensures) (c .before .before .put-line-end .ensures)) (omega arith) (rw (c .before .before .before .before .before .before .before .before .before .reply .given .1))
 
 same-length-4 : tie.Need-same-length-4
 same-length-4 c = search needs
 
 returns-4 : tie.Need-returns-4
-unfolding replyText
-returns-4 c = wrote-within (wrote-then (c .before .before .before .before .before .before .put-word .ensures) (c .before .before .put-end2 .ensures)) (omega arith) (rw (c .before .before .before .before .before .before .before .before .before .reply2 .given .1))
+unfolding reply-text
+returns-4 c = wrote-within (wrote-then (c .before .before .before .before .before .before .put-word .ensures) (c .before .before .put-line-end2 .ensures)) (omega arith) (rw (c .before .before .before .before .before .before .before .before .before .reply2 .given .1))
 
 same-length-5 : tie.Need-same-length-5
 same-length-5 c = search needs
 
 returns-5 : tie.Need-returns-5
-unfolding replyText
-returns-5 c = wrote-within (wrote-then (c .before .before .before .before .before .before .put-answer .ensures) (c .before .before .put-end3 .ensures)) (omega arith) (rw (c .before .before .before .before .before .before .before .before .before .reply3 .given .1))
+unfolding reply-text
+returns-5 c = wrote-within (wrote-then (c .before .before .before .before .before .before .put-answer .ensures) (c .before .before .put-line-end3 .ensures)) (omega arith) (rw (c .before .before .before .before .before .before .before .before .before .reply3 .given .1))
 
 same-length-6 : tie.Need-same-length-6
 same-length-6 c = search needs
@@ -140,8 +140,8 @@ same-length-7 : tie.Need-same-length-7
 same-length-7 c = search needs
 
 returns-7 : tie.Need-returns-7
-unfolding replyText
-returns-7 c = wrote-within (wrote-then (c .before .before .before .before .before .before .put-guest .ensures) (c .before .before .put-end4 .ensures)) (omega arith) (rw (c .before .before .before .before .before .before .before .before .before .reply5 .given .1))
+unfolding reply-text
+returns-7 c = wrote-within (wrote-then (c .before .before .before .before .before .before .put-guest .ensures) (c .before .before .put-line-end4 .ensures)) (omega arith) (rw (c .before .before .before .before .before .before .before .before .before .reply5 .given .1))
 
 same-length-8 : tie.Need-same-length-8
 same-length-8 c = search needs
@@ -153,7 +153,7 @@ same-length-9 : tie.Need-same-length-9
 same-length-9 c = search needs
 
 returns-9 : tie.Need-returns-9
-unfolding replyText
+unfolding reply-text
 returns-9 c = wrote-within (c .before .before .put3 .ensures) (omega arith) (rw (c .before .before .before .before .before .enum-told4 .given .1))
 
 pub put-reply-spec : {M : Type 1} → statement M
@@ -168,18 +168,18 @@ put-reply-spec =
     put-requires-2
     enum-known-reply
     put-decimal-requires
-    put-end-requires
+    put-line-end-requires
     enum-known-reply-2
     put-word-requires
-    put-end-requires-2
+    put-line-end-requires-2
     enum-known-reply-3
     put-answer-requires
-    put-end-requires-3
+    put-line-end-requires-3
     enum-known-reply-4
     put-frame-line-requires
     enum-known-reply-5
     put-guest-requires
-    put-end-requires-4
+    put-line-end-requires-4
     enum-told-3
     put-whole-ledger-requires
     enum-told-4

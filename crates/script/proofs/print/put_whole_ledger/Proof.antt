@@ -1,9 +1,9 @@
 -- Written by tools/prove from the file answers beside it: edit that, and not this.
 -- The slices have the machine's parts, and the ledger is one of the machine's frames.
 use mathlib.Core.Path.{refl}
-use Rattle.machine.specs.Laws.{ram-part, ledger-part, size-is}
-use Rattle.script.specs.Line.{replyText}
-use Rattle.text.proofs.Printing.{wrote-within}
+use Rattle.script_machine.proofs.Laws.Parts.{ram-part, ledger-part, size-is}
+use Rattle.script.specs.Printed.{reply-text}
+use Rattle.script_text.proofs.Laws.Printing.{wrote-within}
 use borrow.Author.Needs.{needs}
 use native.Mathlib.Omega.{arith}
 use Rattle.script.proofs.print.put_whole_ledger.Statement.{statement}
@@ -31,7 +31,7 @@ same-length : tie.Need-same-length
 same-length c = search needs
 
 returns : tie.Need-returns
-unfolding replyText
+unfolding reply-text
 returns c = wrote-within (c .before .before .put-ledger .ensures) (omega (arith, (size-is (c .before .before .before .before .before .before .before .before .before .before .before .pre .0) (c .before .before .before .before .before .before .before .before .before .before .before .pre .1)))) refl
 
 pub put-whole-ledger-spec : {M : Type 1} → statement M

@@ -1,6 +1,6 @@
 -- Written by tools/prove from the file answers beside it: edit that, and not this.
 -- Each has its text.
-use Rattle.script.specs.Line.{reasonText}
+use Rattle.script.specs.Printed.{reason-text}
 use borrow.Author.Needs.{needs}
 use native.Mathlib.Omega.{arith}
 use Rattle.script.proofs.print.reason_text.Statement.{statement}
@@ -34,39 +34,39 @@ enum-told-9 : tie.Need-enum-told-9
 enum-told-9 c = search needs
 
 returns : tie.Need-returns
-unfolding reasonText
+unfolding reason-text
 returns c = record { short = omega arith; there = omega arith; same = rw (c .enum-told .given .1) }
 
 returns-2 : tie.Need-returns-2
-unfolding reasonText
+unfolding reason-text
 returns-2 c = record { short = omega arith; there = omega arith; same = rw (c .enum-told2 .given .1) }
 
 returns-3 : tie.Need-returns-3
-unfolding reasonText
+unfolding reason-text
 returns-3 c = record { short = omega arith; there = omega arith; same = rw (c .enum-told3 .given .1) }
 
 returns-4 : tie.Need-returns-4
-unfolding reasonText
+unfolding reason-text
 returns-4 c = record { short = omega arith; there = omega arith; same = rw (c .enum-told4 .given .1) }
 
 returns-5 : tie.Need-returns-5
-unfolding reasonText
+unfolding reason-text
 returns-5 c = record { short = omega arith; there = omega arith; same = rw (c .enum-told5 .given .1) }
 
 returns-6 : tie.Need-returns-6
-unfolding reasonText
+unfolding reason-text
 returns-6 c = record { short = omega arith; there = omega arith; same = rw (c .enum-told6 .given .1) }
 
 returns-7 : tie.Need-returns-7
-unfolding reasonText
+unfolding reason-text
 returns-7 c = record { short = omega arith; there = omega arith; same = rw (c .enum-told7 .given .1) }
 
 returns-8 : tie.Need-returns-8
-unfolding reasonText
+unfolding reason-text
 returns-8 c = record { short = omega arith; there = omega arith; same = rw (c .enum-told8 .given .1) }
 
 returns-9 : tie.Need-returns-9
-unfolding reasonText
+unfolding reason-text
 returns-9 c = record { short = omega arith; there = omega arith; same = rw (c .enum-told9 .given .1) }
 
 pub reason-text-spec : {M : Type 1} → statement M

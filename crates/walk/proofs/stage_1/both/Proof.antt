@@ -1,7 +1,7 @@
 -- Written by tools/prove from the file answers beside it: edit that, and not this.
 -- A virtual address of 2^48 or more is answered before stage 1.
 use Rattle.walk.specs.Both.{both}
-use Rattle.walk.specs.Steps.{tells}
+use Rattle.walk.specs.Steps.{with-count}
 use borrow.Author.Needs.{needs}
 use mathlib.Core.Path.{sym}
 use borrow.Author.Tests.{lt-ltb, lt-leb, le-leb, le-ltb}
@@ -20,7 +20,7 @@ returns c = simp (
 )
 
 returns-2 : tie.Need-returns-2
-unfolding both tells
+unfolding both with-count
 returns-2 c = simp (
   le-leb _ _ (c .if1 .left),
   le-ltb _ _ (c .if1 .left),

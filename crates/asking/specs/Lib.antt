@@ -1,2 +1,0 @@
--- What a host is told: the definitions that the contracts cite, and the laws of their proofs.
-pub mod Questions

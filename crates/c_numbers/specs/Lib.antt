@@ -1,2 +1,0 @@
--- How an answer lies in the array that a C caller lends.
-pub mod Answer

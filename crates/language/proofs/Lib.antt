@@ -1,4 +1,0 @@
--- Laws of the definitions, for the proofs of the code.
-mod Names
-mod Shapes
-mod Parsing

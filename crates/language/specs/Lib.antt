@@ -1,3 +1,0 @@
--- The script language: its words, and the command that a line asks for.
-pub mod Verbs
-pub mod Commands

@@ -1,0 +1,4 @@
+-- Laws, for proofs.
+pub mod Exchange
+pub mod Moves
+pub mod Start

@@ -1,0 +1,4 @@
+-- Laws, for proofs.
+pub mod Words
+pub mod Bytes
+pub mod Ram

@@ -1,0 +1,4 @@
+-- Laws, for proofs.
+pub mod Base
+pub mod Entry
+pub mod Ways

@@ -1,0 +1,3 @@
+-- Laws, for proofs.
+pub mod Invariant
+pub mod Laws

@@ -1,0 +1,25 @@
+-- What holds after every step, and that every step keeps it.
+pub mod Core
+pub mod Found
+pub mod Quiet
+pub mod Ledger
+pub mod Draining
+pub mod Entries
+pub mod Enter
+pub mod Clear
+pub mod Link
+pub mod Unhook
+pub mod Open
+pub mod End
+pub mod Dissolve
+pub mod Report
+pub mod Holds
+pub mod Led
+pub mod Allowed
+pub mod Hands
+pub mod Levels
+pub mod LevelsMoves
+pub mod LevelsKept
+pub mod Monitors
+pub mod Always
+pub mod Beside

@@ -1,0 +1,2 @@
+-- Laws of specs/.
+pub mod Paths

@@ -1,0 +1,4 @@
+-- Laws of specs/.
+pub mod View
+pub mod Reads
+pub mod Guests

@@ -1,0 +1,5 @@
+-- Laws, for proofs.
+pub mod Answers
+pub mod Found
+pub mod EachFrame
+pub mod LedgerOnly

@@ -1,0 +1,2 @@
+-- create: what the contracts cite.
+pub mod Create

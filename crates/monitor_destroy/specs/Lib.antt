@@ -1,0 +1,2 @@
+-- destroy: what the contracts cite.
+pub mod Destroy

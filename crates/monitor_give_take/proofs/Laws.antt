@@ -1,0 +1,3 @@
+-- Laws, for proofs.
+pub mod Give
+pub mod Take

@@ -1,0 +1,3 @@
+-- give and take: what the contracts cite.
+pub mod Give
+pub mod Take

@@ -1,0 +1,2 @@
+-- invalidated: what the contracts cite.
+pub mod Invalidated

@@ -1,0 +1,2 @@
+-- map: what the contracts cite.
+pub mod Map

@@ -1,0 +1,2 @@
+-- What a host is told: what the contracts cite.
+pub mod Questions

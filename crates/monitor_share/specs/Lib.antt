@@ -1,0 +1,2 @@
+-- share and unshare: what the contracts cite.
+pub mod Share

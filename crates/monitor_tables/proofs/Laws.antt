@@ -1,0 +1,4 @@
+-- Laws, for proofs.
+pub mod Entries
+pub mod Way
+pub mod NewTable

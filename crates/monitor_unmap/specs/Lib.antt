@@ -1,0 +1,2 @@
+-- unmap: what the contracts cite.
+pub mod Unmap

@@ -1,5 +1,0 @@
--- What every operation promises, and the laws of a check and a doing.
-pub mod Answers
-pub mod Quiet
-pub mod Found
-pub mod Upto

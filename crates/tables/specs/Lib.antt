@@ -1,2 +1,0 @@
--- A new table, and what linking it asks for.
-pub mod NewTable

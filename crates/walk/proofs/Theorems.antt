@@ -1,6 +1,0 @@
--- What is true of the walk, each sentence in a file of its own.
-pub mod Refused
-pub mod Low
-pub mod Few
-pub mod Complete
-pub mod Local

@@ -1,0 +1,1 @@
+void exit(int status) __attribute__((noreturn)); /* start.S */
