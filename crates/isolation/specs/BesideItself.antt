@@ -33,7 +33,8 @@ Diagonal R = (f f′ : ℕ) → R f f′ → f ≡ f′
 abbrev Rest : (g : ℕ) (y z : Slices) → Type 1
 Rest g y z = (R : T.Frames) → Seen g R (machine y) (machine y) → Diagonal R → Beside g R y z
 
-module _ (g : ℕ) (x y z : Slices) (h : Fit x) (R : T.Frames) (p : Seen g R (machine x) (machine x)) (same : Diagonal R) (rest : Rest g y z) where
+module _ (g : ℕ) (x y z : Slices) (h : Fit x) (R : T.Frames) (p : Seen g R (machine x) (machine x)) (same : Diagonal R)
+    (rest : Rest g y z) where
   module _ (c : Call) (r : ℕ) (a : Called c r x y) where
     alone : (T.concerns g (asked x c) ≡ false) ⊎ (r ≡ 0 → ⊥) → Beside g R x z
     alone w =
@@ -48,8 +49,10 @@ module _ (g : ℕ) (x y z : Slices) (h : Fit x) (R : T.Frames) (p : Seen g R (ma
     together : r ≡ 0 → T.concerns g (asked x c) ≡ true → Beside g R x z
     together e q =
         let b : Called c 0 x y = subst (λ (k : ℕ). Called c k x y) e a in
-        let d : M.answer (state x) (asked x c) ≡ done (state y) = sym (defined-is c (state x) (pick-of (x .ledger))) ∙ done-at-0 c (x .ram) (x .ledger) (b .answers) refl in
-        let s1 = both-call {R = R} {x = x} {y = x} {x′ = y} {y′ = y} c c b b (match-itself g R (machine x) p same (asked x c) q (state y) d) in
+        let d : M.answer (state x) (asked x c) ≡ done (state y) = sym (defined-is c (state x) (pick-of (x .ledger)))
+        ∙ done-at-0 c (x .ram) (x .ledger) (b .answers) refl in
+        let s1 = both-call {R = R} {x = x} {y = x} {x′ = y} {y′ = y} c c b b
+        (match-itself g R (machine x) p same (asked x c) q (state y) d) in
         let w = rest (T.after g R (asked x c) (asked x c) (state y) (state y)) (step-apart (apart-is g h h s1) p)
         (λ f f′ w. elim (w .0) [ inl k ↦ same f f′ k | inr k ↦ brought-same (asked x c) f f′ (k .0) (k .1) ]) in
         (w .0, then s1 (w .1))
@@ -65,7 +68,8 @@ module _ (g : ℕ) (x y z : Slices) (h : Fit x) (R : T.Frames) (p : Seen g R (ma
     where
       seen : shown (state x) g f ≡ true → Beside g R x z
       seen q =
-          let s1 = both-store {R = R} {x = x} {y = x} {x′ = y} {y′ = y} k k f f o b a a (itself g R (machine x) p same f (shown-role (state x) g f q)) in
+          let s1 = both-store {R = R} {x = x} {y = x} {x′ = y} {y′ = y} k k f f o b a a
+          (itself g R (machine x) p same f (shown-role (state x) g f q)) in
           let w = rest R (step-apart (apart-is g h h s1) p) same in
           (w .0, then s1 (w .1))
 
@@ -78,8 +82,10 @@ module _ (g : ℕ) (x y z : Slices) (h : Fit x) (R : T.Frames) (p : Seen g R (ma
 
 beside-from : (g : ℕ) {x z : Slices} → Fit x → S.Run x z → (R : T.Frames) → Seen g R (machine x) (machine x) → Diagonal R → Beside g R x z
 beside-from g h S.stop R p same = (R, stop)
-beside-from g {x} {z} h (S.then {y} (called c r a) more) R p same = both-called g x y z h R p same (beside-from g (step-fits h (called c r a)) more) c r a
-beside-from g {x} {z} h (S.then {y} (stored k f o b a) more) R p same = both-stored g x y z h R p same (beside-from g (step-fits h (stored k f o b a)) more) k f o b a
+beside-from g {x} {z} h (S.then {y} (called c r a) more) R p same =
+    both-called g x y z h R p same (beside-from g (step-fits h (called c r a)) more) c r a
+beside-from g {x} {z} h (S.then {y} (stored k f o b a) more) R p same =
+    both-stored g x y z h R p same (beside-from g (step-fits h (stored k f o b a)) more) k f o b a
 
 pub beside-itself : (g : ℕ) {x z : Slices} → Begun x → S.Run x z → (R : T.Frames) × Runs-apart g T.no-frames x x R z z
 beside-itself g b r = beside-from g (begun-fits b) r T.no-frames (start-seen g (begun-is b) (begun-is b)) (λ f f′ a. absurd a)

@@ -1,4 +1,5 @@
--- Contents: no call, refused or done, changes a byte of a page that stays with its guest; nor of a frame that drains, nor of the monitor's.
+-- Contents: no call, refused or done, changes a byte of a page that stays with its guest; nor of a frame that drains, nor of the
+-- monitor's.
 -- Integrity: a byte of a page changes only by a store of its owner, of a guest that it is shared with for writing, or of the host.
 -- Any steps of the slices from set-up, then any call, or any step. (What give clears was free before.)
 use mathlib.Core.Path.{_≡_, refl}

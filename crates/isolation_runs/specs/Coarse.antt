@@ -1,4 +1,5 @@
--- The two lent slices and what the processor may have kept, step by step: a call of one of the monitor's functions, of which only its contract is used; or a guest's store of a byte.
+-- The two lent slices and what the processor may have kept, step by step: a call of one of the monitor's functions, of which only its
+-- contract is used; or a guest's store of a byte.
 -- Nothing else writes the slices (docs/TRUST.md, section 6). What the slices are right after set-up was answered with 0: Begun.
 use mathlib.Core.Path.{_≡_}
 use mathlib.Core.Bool.{true}

@@ -1,5 +1,6 @@
 -- The bytes of RAM below a state (document 01, section 1), and what the state says of an address in document 01's words.
--- Decided here: RAM is the list m of its bytes, the first at physical address b, of which the state keeps b / 4096; frame f begins at index 4096 f.
+-- Decided here: RAM is the list m of its bytes, the first at physical address b, of which the state keeps b / 4096; frame f begins at
+-- index 4096 f.
 use mathlib.Core.Path.{_≡_}
 use mathlib.Core.Bool.{cond}
 use mathlib.Core.List.{List}
@@ -31,7 +32,8 @@ abbrev pub comes : (b o k : ℕ) → Access → Option Page → Stage-2-result
 comes b o k w none = failed Translation (3 - k)
 comes b o k w (some p) = cond (grants (p .1) w) (reached (b + 4096 * p .0 + o)) (failed Permission 3)
 
--- What the state says of guest g's address a: the byte at the same offset of the frame, where the rights allow the access; PERMISSION, where they do not;
+-- What the state says of guest g's address a: the byte at the same offset of the frame, where the rights allow the access; PERMISSION,
+-- where they do not;
 -- TRANSLATION, where nothing is mapped, at the level of the first empty entry.
 unfoldable pub says : State → (b g a : ℕ) → Access → Stage-2-result
 says s b g a w = comes b (a % 4096) (missing s g (a / 4096)) w (translate s g (a / 4096))

@@ -1,5 +1,6 @@
 -- Document 03, section 4: what the processor may keep, and what a guest can reach.
--- The processor reads a word by its bits (document 01, section 3), and not as the monitor reads its own. It is allowed more than document 01:
+-- The processor reads a word by its bits (document 01, section 3), and not as the monitor reads its own. It is allowed more than
+-- document 01:
 -- the access flag and the bits that must be 0 are ignored, and a block is kept page by page.
 use mathlib.Core.Path.{_≡_}
 use mathlib.Core.Bool.{Bool, true, cond}
@@ -80,6 +81,7 @@ grants r reading = eqb (r % 2) 1
 grants r writing = eqb (r / 2 % 2) 1
 grants r executing = eqb (r / 4 % 2) 1
 
--- "a guest may reach a byte, for reading, writing or executing, if the tables or such a kept translation allow it": the byte at physical address a
+-- "a guest may reach a byte, for reading, writing or executing, if the tables or such a kept translation allow it": the byte at physical
+-- address a
 unfoldable pub Reach : State → Caches → (g : ℕ) → Access → (a : ℕ) → Type 0
 Reach s k g w a = (v r : ℕ) × Translation s k g v (a / 4096) r × (grants r w ≡ true)

@@ -73,7 +73,8 @@ Mapped s g v f r = (t : ℕ) × (s .kind t ≡ table g 0 (v / 512)) × (entry-at
 
 -- What is kept leads to frames that are the guest's, or drain for it; and where the guest is not dirty, to what its tables say now.
 pub record Kept (s : State) (k : Caches) : Type 0 where
-  pub table-ok : (g h p x : ℕ) → k .table-kept g h p x → (t : ℕ) × (x ≡ s .first + t) × ((s .kind t ≡ table g h p) ⊎ (s .kind t ≡ draining-table g h p))
+  pub table-ok : (g h p x : ℕ) → k .table-kept g h p x → (t : ℕ) × (x ≡ s .first + t) ×
+      ((s .kind t ≡ table g h p) ⊎ (s .kind t ≡ draining-table g h p))
   pub page-ok : (g v x r : ℕ) → k .page-kept g v x r → (f : ℕ) × (x ≡ s .first + f) × (May s g f r ⊎ (s .kind f ≡ draining-page g))
   pub table-now : (g h p x : ℕ) → s .dirty g ≡ false → k .table-kept g h p x → (t : ℕ) × (x ≡ s .first + t) × (s .kind t ≡ table g h p)
   pub page-now : (g v x r : ℕ) → s .dirty g ≡ false → k .page-kept g v x r → (f : ℕ) × (x ≡ s .first + f) × Mapped s g v f r

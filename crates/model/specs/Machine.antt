@@ -1,6 +1,8 @@
 -- Document 03, section 4: the monitor and the processor together, step by step.
--- A step is an operation with any arguments, answered or refused, or a guest's store of a byte. After each the processor may keep what it can find.
--- Decided here: only the report of an invalidation empties the caches of a guest; create empties nothing, which asks less of the processor.
+-- A step is an operation with any arguments, answered or refused, or a guest's store of a byte. After each the processor may keep what
+-- it can find.
+-- Decided here: only the report of an invalidation empties the caches of a guest; create empties nothing, which asks less of the
+-- processor.
 use mathlib.Core.Path.{_≡_}
 use mathlib.Core.Bool.{true}
 use Prim.Native.Nat.{ℕ, _+_, _*_, _<_, _/_, _%_}

@@ -35,7 +35,8 @@ is-rights r = eqb r 1 || eqb r 3 || eqb r 5 || eqb r 7
 unfoldable pub shares : (how r : ℕ) → Bool
 shares how r = ltb NOTHING how && ltb r EXECUTE && (ltb r WRITE || leb WRITING how)
 
--- 9, of map: "f isn't a page; or it is another guest's page and r contains execute, or reading isn't shared with g, or r contains write and writing isn't shared with g"
+-- 9, of map: "f isn't a page; or it is another guest's page and r contains execute, or reading isn't shared with g, or r contains write
+-- and writing isn't shared with g"
 unfoldable pub may-map : State → (f g r : ℕ) → Bool
 may-map s f g r = is-page-of (s .kind f) g || (is-page (s .kind f) && shares (s .shared f g) r)
 
@@ -91,7 +92,8 @@ share s g f h w =
     check (not (narrows s f h w) || not (s .dirty h)) 14 (
     done (becomes s f (page g) (s .word) (upd2 (s .shared) f h (cond (eqb w 0) READING WRITING)))))))))
 
--- "unshare g's f from h | 5, 4, 9, 13, 14 | h may no longer map f". 9: "f isn't a page of g or isn't shared with h. 13: h has f mapped. 14: h is dirty."
+-- "unshare g's f from h | 5, 4, 9, 13, 14 | h may no longer map f". 9: "f isn't a page of g or isn't shared with h. 13: h has f mapped.
+-- 14: h is dirty."
 unfoldable pub unshare : State → (g f h : ℕ) → Out
 unshare s g f h =
     check (s .exists g && s .exists h) 5 (

@@ -1,4 +1,5 @@
--- Two runs that differ, computed: RAM held other words, the monitor keeps another frame, guest 2 exists in one run only and took frames first.
+-- Two runs that differ, computed: RAM held other words, the monitor keeps another frame, guest 2 exists in one run only and took frames
+-- first.
 -- Guest 1 gets frame 8 in one run and frame 10 in the other; what it reads at 0x1000 is the same (TwoRunsApart).
 use mathlib.Core.Path.{_≡_, refl}
 use mathlib.Core.Bool.{true}
@@ -67,7 +68,8 @@ abbrev pub given-frames : Frames
 given-frames = after 1 created-frames (Give 8 1) (Give 10 1) (one 2 .state) (two 4 .state)
 
 corresponds : given-frames 8 10
-unfolding one two created given begins call settle keeps answer lowest free-at frees started at-first create give check free-frames sum upd zeros becomes with-root
+unfolding one two created given begins call settle keeps answer lowest free-at frees started at-first create give check free-frames sum
+    upd zeros becomes with-root
 corresponds = (inr (refl, refl), refl, refl)
 
 -- the five steps: two of the second run alone, three together
@@ -80,26 +82,35 @@ unfolding two given
 second-gives = second-calls (Give 9 2) tt (inl refl)
 
 both-create : Apart 1 no-frames (one 0) (two 2) created-frames (one 1) (two 3)
-unfolding one two created given begins call settle keeps answer lowest free-at frees started at-first create give check free-frames sum upd zeros becomes with-root
-both-create = both-call (Create 1 (lowest (one 0 .state))) (Create 1 (lowest (two 2 .state))) (lowest-chosen (one 0 .state)) (lowest-chosen (two 2 .state)) refl refl creates
+unfolding one two created given begins call settle keeps answer lowest free-at frees started at-first create give check free-frames sum
+    upd zeros becomes with-root
+both-create = both-call (Create 1 (lowest (one 0 .state))) (Create 1 (lowest (two 2 .state))) (lowest-chosen (one 0 .state))
+    (lowest-chosen (two 2 .state)) refl refl creates
 
 both-give : Apart 1 created-frames (one 1) (two 3) given-frames (one 2) (two 4)
-unfolding one two created given begins call settle keeps answer lowest free-at frees started at-first create give check free-frames sum upd zeros becomes with-root
+unfolding one two created given begins call settle keeps answer lowest free-at frees started at-first create give check free-frames sum
+    upd zeros becomes with-root
 both-give = both-call (Give 8 1) (Give 10 1) tt tt refl refl gives
 
 abbrev pub placed-frames : Frames
-placed-frames = after 1 given-frames (Map 8 1 0x1000 3 (lowest (one 2 .state))) (Map 10 1 0x1000 3 (lowest (two 4 .state))) (one 3 .state) (two 5 .state)
+placed-frames = after 1 given-frames (Map 8 1 0x1000 3 (lowest (one 2 .state))) (Map 10 1 0x1000 3 (lowest (two 4 .state))) (one 3 .state)
+    (two 5 .state)
 
 both-map : Apart 1 given-frames (one 2) (two 4) placed-frames (one 3) (two 5)
-unfolding one two created given placed begins call settle keeps answer lowest free-at frees started at-first create give map check shares may-map free-frames sum upd upd2 entry table-entry page-entry rights-of upper descend leaf translate missing-from zeros becomes with-root with-table grow with-page with-mapping
-both-map = both-call (Map 8 1 0x1000 3 (lowest (one 2 .state))) (Map 10 1 0x1000 3 (lowest (two 4 .state))) (lowest-chosen (one 2 .state)) (lowest-chosen (two 4 .state)) refl refl (maps corresponds)
+unfolding one two created given placed begins call settle keeps answer lowest free-at frees started at-first create give map check shares
+    may-map free-frames sum upd upd2 entry table-entry page-entry rights-of upper descend leaf translate missing-from zeros becomes
+    with-root with-table grow with-page with-mapping
+both-map = both-call (Map 8 1 0x1000 3 (lowest (one 2 .state))) (Map 10 1 0x1000 3 (lowest (two 4 .state))) (lowest-chosen (one 2 .state))
+    (lowest-chosen (two 4 .state)) refl refl (maps corresponds)
 
 pub differ : Runs-apart 1 no-frames (one 0) (two 0) placed-frames (one 3) (two 5)
 differ = then second-creates (then second-gives (then both-create (then both-give (then both-map stop))))
 
 -- the frames are not the same
 pub other-frames : (translate (one 3 .state) 1 1 ≡ some (8, 3)) × (translate (two 5 .state) 1 1 ≡ some (10, 3))
-unfolding one two created given placed begins call settle keeps answer lowest free-at frees started at-first create give map check shares may-map free-frames sum upd upd2 entry table-entry page-entry rights-of upper descend leaf translate missing-from zeros becomes with-root with-table grow with-page with-mapping
+unfolding one two created given placed begins call settle keeps answer lowest free-at frees started at-first create give map check shares
+    may-map free-frames sum upd upd2 entry table-entry page-entry rights-of upper descend leaf translate missing-from zeros becomes
+    with-root with-table grow with-page with-mapping
 other-frames = (refl, refl)
 
 -- and guest 1 reads the same

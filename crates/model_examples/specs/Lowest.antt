@@ -32,7 +32,8 @@ placed (suc n) kind i l = elim (bool? (is-free (kind n))) [
   | inr a ↦ rw a (placed n kind i (let z : one-if-free (kind n) ≡ 0 = rw a in omega arith))
   | inl a ↦ elim (eq? i (frees n kind)) [
     | inl e ↦ rw (a, eq-eqb i (frees n kind) e) (record { is = free-is (kind n) a; below = sym e })
-    | inr e ↦ rw (a, ne-eqb i (frees n kind) e) (placed n kind i (let z : one-if-free (kind n) ≡ 1 = rw a in less i (frees n kind) e (omega arith)))
+    | inr e ↦ rw (a, ne-eqb i (frees n kind) e) (placed n kind i
+        (let z : one-if-free (kind n) ≡ 1 = rw a in less i (frees n kind) e (omega arith)))
   ]
 ]
   where

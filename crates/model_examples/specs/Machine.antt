@@ -33,7 +33,8 @@ pub asked-state : {s : State} (m : Machine) (l : List Ask) → m .state ≡ s �
 unfolding machine-after state-after
 asked-state m [] e = e
 asked-state {s} m (a ∷ rest) e =
-    asked-state (call m (operation (m .state) a)) rest (unfold call in settled m (keeps (m .caches) (operation (m .state) a)) (answer (m .state) (operation (m .state) a)) ∙ ap (λ (u : State). after u (answer u (operation u a))) e)
+    asked-state (call m (operation (m .state) a)) rest (unfold call in settled m (keeps (m .caches) (operation (m .state) a))
+    (answer (m .state) (operation (m .state) a)) ∙ ap (λ (u : State). after u (answer u (operation u a))) e)
 
 pub run-then : {m m′ z : Machine} → Run m m′ → Run m′ z → Run m z
 run-then stop y = y
@@ -87,10 +88,12 @@ abbrev All-quiet : ℕ → List Ask → Type 0
 All-quiet g [] = Unit {0}
 All-quiet g (a ∷ rest) = Quiet g a × All-quiet g rest
 
-keeps-on : (m : Machine) (g : ℕ) (l : List Ask) → All-quiet g l → (v x r : ℕ) → m .caches .page-kept g v x r → machine-after m l .caches .page-kept g v x r
+keeps-on : (m : Machine) (g : ℕ) (l : List Ask) → All-quiet g l → (v x r : ℕ) → m .caches .page-kept g v x r →
+    machine-after m l .caches .page-kept g v x r
 unfolding machine-after
 keeps-on m g [] q v x r a = a
-keeps-on m g (b ∷ rest) q v x r a = keeps-on (call m (operation (m .state) b)) g rest (q .1) v x r (call-keeps m (operation (m .state) b) g (q .0 (m .state)) v x r a)
+keeps-on m g (b ∷ rest) q v x r a = keeps-on (call m (operation (m .state) b)) g rest (q .1) v x r
+    (call-keeps m (operation (m .state) b) g (q .0 (m .state)) v x r a)
 
 -- after a call the processor has looked at the state that is there
 abbrev pub Looked : Machine → Type 1
@@ -106,14 +109,17 @@ looked m a [] = unfold call in go (answer (m .state) (operation (m .state) a))
 looked m a (b ∷ rest) = looked (call m (operation (m .state) a)) b rest
 
 -- a guest whose tables lead to frame 8 reaches its first byte
-pub reaches-8 : {m : Machine} → Run machine-0 m → (s : State) → m .state ≡ s → s .first ≡ 0x40000 → (g v r : ℕ) (w : Access) → v < page-count → translate s g v ≡ some (8, r) → grants r w ≡ true → Reaches m g w 0x40008000
-reaches-8 {m} run s is first g v r w l e a = subst (λ (x : ℕ). Reaches m g w ((x + 8) * 4096 + 0)) (ap (λ (s : State). s .first) is ∙ first) (reaches-mapped m (holds set-up-0 run .core) g v 8 r w 0 l (rw is e) a (omega arith))
+pub reaches-8 : {m : Machine} → Run machine-0 m → (s : State) → m .state ≡ s → s .first ≡ 0x40000 → (g v r : ℕ) (w : Access) →
+    v < page-count → translate s g v ≡ some (8, r) → grants r w ≡ true → Reaches m g w 0x40008000
+reaches-8 {m} run s is first g v r w l e a = subst (λ (x : ℕ). Reaches m g w ((x + 8) * 4096 + 0))
+    (ap (λ (s : State). s .first) is ∙ first) (reaches-mapped m (holds set-up-0 run .core) g v 8 r w 0 l (rw is e) a (omega arith))
 
 -- guest 1 writes and guest 2 reads frame 8
 first-11 : machine-11 .state .first ≡ 0x40000
 first-11 = ap (λ (s : State). s .first) state-11 ∙ first-page
 
-at-11 : (g v r : ℕ) (w : Access) → v < page-count → translate after-11 g v ≡ some (8, r) → grants r w ≡ true → Reaches machine-11 g w 0x40008000
+at-11 : (g v r : ℕ) (w : Access) → v < page-count → translate after-11 g v ≡ some (8, r) → grants r w ≡ true →
+    Reaches machine-11 g w 0x40008000
 at-11 = reaches-8 run-11 after-11 state-11 first-page
 
 pub owner-writes : (machine-11 .state .kind 8 ≡ page 1) × Reaches machine-11 1 writing 0x40008000
@@ -131,11 +137,13 @@ unfolding machine-11 sharing
 kept-11 = go (looked machine-0 (creates 1) _)
   where
     go : Looked machine-11 → machine-11 .caches .page-kept 1 0x80000 (machine-11 .state .first + 8) 3
-    go l = rw (l .1) (unfold grown in found (machine-11 .state) (holds set-up-0 run-11 .core) (l .0) 1 0x80000 8 3 (omega arith) (rw state-11 (shared-then .2)))
+    go l = rw (l .1) (unfold grown in found (machine-11 .state) (holds set-up-0 run-11 .core) (l .0) 1 0x80000 8 3 (omega arith)
+        (rw state-11 (shared-then .2)))
 
 kept-19 : machine-19 .caches .page-kept 1 0x80000 0x40008 3
 unfolding machine-19 draining
-kept-19 = subst (λ (x : ℕ). machine-after machine-11 draining .caches .page-kept 1 0x80000 x 3) (ap (λ (x : ℕ). x + 8) first-11) (keeps-on machine-11 1 draining quiet 0x80000 (machine-11 .state .first + 8) 3 kept-11)
+kept-19 = subst (λ (x : ℕ). machine-after machine-11 draining .caches .page-kept 1 0x80000 x 3) (ap (λ (x : ℕ). x + 8) first-11)
+    (keeps-on machine-11 1 draining quiet 0x80000 (machine-11 .state .first + 8) 3 kept-11)
   where
     quiet : All-quiet 1 draining
     quiet = unfold operation in (λ s. refl, (λ s. refl, (λ s. refl, (λ s. refl, (λ s. refl, (λ s. refl, (λ s. refl, (λ s. refl, tt))))))))

@@ -67,14 +67,17 @@ sharing =
     ∷ shares-with 1 8 2 0 ∷ maps 8 2 0x1000 3 ∷ maps 8 2 0x1000 1 ∷ []
 
 unfoldable pub draining : List Ask
-draining = unshares 1 8 2 ∷ unmaps 2 0x1000 ∷ unshares 1 8 2 ∷ invalidates 2 ∷ unshares 1 8 2 ∷ takes 8 1 ∷ unmaps 1 0x80000000 ∷ takes 8 1 ∷ []
+draining = unshares 1 8 2 ∷ unmaps 2 0x1000 ∷ unshares 1 8 2 ∷ invalidates 2 ∷ unshares 1 8 2 ∷ takes 8 1 ∷ unmaps 1 0x80000000 ∷ takes 8
+    1 ∷ []
 
 unfoldable pub reuse : List Ask
 reuse =
-    gives 8 2 ∷ invalidates 1 ∷ gives 8 2 ∷ maps 8 1 0x80000001 1 ∷ maps 8 1 0x1000000000000 1 ∷ maps 0 2 0x2000 1 ∷ maps 9 2 0x2000 1 ∷ maps 8 2 0x2000 2
+    gives 8 2 ∷ invalidates 1 ∷ gives 8 2 ∷ maps 8 1 0x80000001 1 ∷ maps 8 1 0x1000000000000 1 ∷ maps 0 2 0x2000 1 ∷ maps 9 2 0x2000 1 ∷
+    maps 8 2 0x2000 2
     ∷ unmaps 1 0x80000000 ∷ destroys 1 ∷ creates 1 ∷ invalidates 1 ∷ creates 1 ∷ []
 
--- "16 frames, the first ten the monitor's; create 1, give 14 and 15 to 1, map 14 at 0, rights 1 (three tables: now none is free), map 15 at 2^47, rights 1: answer 3"
+-- "16 frames, the first ten the monitor's; create 1, give 14 and 15 to 1, map 14 at 0, rights 1 (three tables: now none is free), map 15
+-- at 2^47, rights 1: answer 3"
 unfoldable pub scarce : List Ask
 scarce = creates 1 ∷ gives 14 1 ∷ gives 15 1 ∷ maps 14 1 0 1 ∷ maps 15 1 0x800000000000 1 ∷ []
 
@@ -89,38 +92,66 @@ unfoldable pub after-32 : State
 after-32 = state-after after-19 reuse
 
 pub steps-1-to-11 : answers (begin 2) sharing ≡ 0 ∷ 2 ∷ 0 ∷ 0 ∷ 6 ∷ 0 ∷ 10 ∷ 9 ∷ 0 ∷ 9 ∷ 0 ∷ []
-unfolding answers state-after after-11 after-19 after-32 sharing draining reuse scarce begin after operation answer lowest free-at frees started at-first create give map unmap share unshare take destroy invalidated check shares may-map unshared total free-frames sum all upd upd2 entry table-entry page-entry rights-of upper descend leaf translate missing-from zeros becomes with-root with-table grow with-page with-mapping without-page without-mapping drained without-guest released clean
+unfolding answers state-after after-11 after-19 after-32 sharing draining reuse scarce begin after operation answer lowest free-at frees
+    started at-first create give map unmap share unshare take destroy invalidated check shares may-map unshared total free-frames sum all
+    upd upd2 entry table-entry page-entry rights-of upper descend leaf translate missing-from zeros becomes with-root with-table grow
+    with-page with-mapping without-page without-mapping drained without-guest released clean
 steps-1-to-11 = refl
 
 pub steps-12-to-19 : answers after-11 draining ≡ 13 ∷ 0 ∷ 14 ∷ 0 ∷ 0 ∷ 13 ∷ 0 ∷ 0 ∷ []
-unfolding answers state-after after-11 after-19 after-32 sharing draining reuse scarce begin after operation answer lowest free-at frees started at-first create give map unmap share unshare take destroy invalidated check shares may-map unshared total free-frames sum all upd upd2 entry table-entry page-entry rights-of upper descend leaf translate missing-from zeros becomes with-root with-table grow with-page with-mapping without-page without-mapping drained without-guest released clean
+unfolding answers state-after after-11 after-19 after-32 sharing draining reuse scarce begin after operation answer lowest free-at frees
+    started at-first create give map unmap share unshare take destroy invalidated check shares may-map unshared total free-frames sum all
+    upd upd2 entry table-entry page-entry rights-of upper descend leaf translate missing-from zeros becomes with-root with-table grow
+    with-page with-mapping without-page without-mapping drained without-guest released clean
 steps-12-to-19 = refl
 
 pub steps-20-to-32 : answers after-19 reuse ≡ 6 ∷ 0 ∷ 0 ∷ 7 ∷ 7 ∷ 9 ∷ 9 ∷ 8 ∷ 11 ∷ 0 ∷ 2 ∷ 0 ∷ 0 ∷ []
-unfolding answers state-after after-11 after-19 after-32 sharing draining reuse scarce begin after operation answer lowest free-at frees started at-first create give map unmap share unshare take destroy invalidated check shares may-map unshared total free-frames sum all upd upd2 entry table-entry page-entry rights-of upper descend leaf translate missing-from zeros becomes with-root with-table grow with-page with-mapping without-page without-mapping drained without-guest released clean
+unfolding answers state-after after-11 after-19 after-32 sharing draining reuse scarce begin after operation answer lowest free-at frees
+    started at-first create give map unmap share unshare take destroy invalidated check shares may-map unshared total free-frames sum all
+    upd upd2 entry table-entry page-entry rights-of upper descend leaf translate missing-from zeros becomes with-root with-table grow
+    with-page with-mapping without-page without-mapping drained without-guest released clean
 steps-20-to-32 = refl
 
 pub runs-out : answers (begin 10) scarce ≡ 0 ∷ 0 ∷ 0 ∷ 0 ∷ 3 ∷ []
-unfolding answers state-after after-11 after-19 after-32 sharing draining reuse scarce begin after operation answer lowest free-at frees started at-first create give map unmap share unshare take destroy invalidated check shares may-map unshared total free-frames sum all upd upd2 entry table-entry page-entry rights-of upper descend leaf translate missing-from zeros becomes with-root with-table grow with-page with-mapping without-page without-mapping drained without-guest released clean
+unfolding answers state-after after-11 after-19 after-32 sharing draining reuse scarce begin after operation answer lowest free-at frees
+    started at-first create give map unmap share unshare take destroy invalidated check shares may-map unshared total free-frames sum all
+    upd upd2 entry table-entry page-entry rights-of upper descend leaf translate missing-from zeros becomes with-root with-table grow
+    with-page with-mapping without-page without-mapping drained without-guest released clean
 runs-out = refl
 
 -- frame 8, which was 1's and shared with 2, drains for 1, and ends as 2's page
-pub shared-then : (after-11 .kind 8 ≡ page 1) × (after-11 .shared 8 2 ≡ 1) × (translate after-11 1 0x80000 ≡ some (8, 3)) × (translate after-11 2 1 ≡ some (8, 1))
-unfolding answers state-after after-11 after-19 after-32 sharing draining reuse scarce begin after operation answer lowest free-at frees started at-first create give map unmap share unshare take destroy invalidated check shares may-map unshared total free-frames sum all upd upd2 entry table-entry page-entry rights-of upper descend leaf translate missing-from zeros becomes with-root with-table grow with-page with-mapping without-page without-mapping drained without-guest released clean
+pub shared-then : (after-11 .kind 8 ≡ page 1) × (after-11 .shared 8 2 ≡ 1) × (translate after-11 1 0x80000 ≡ some (8, 3)) ×
+    (translate after-11 2 1 ≡ some (8, 1))
+unfolding answers state-after after-11 after-19 after-32 sharing draining reuse scarce begin after operation answer lowest free-at frees
+    started at-first create give map unmap share unshare take destroy invalidated check shares may-map unshared total free-frames sum all
+    upd upd2 entry table-entry page-entry rights-of upper descend leaf translate missing-from zeros becomes with-root with-table grow
+    with-page with-mapping without-page without-mapping drained without-guest released clean
 shared-then = (refl, refl, refl, refl)
 
 pub drains-then : (after-19 .kind 8 ≡ draining-page 1) × (translate after-19 1 0x80000 ≡ none)
-unfolding answers state-after after-11 after-19 after-32 sharing draining reuse scarce begin after operation answer lowest free-at frees started at-first create give map unmap share unshare take destroy invalidated check shares may-map unshared total free-frames sum all upd upd2 entry table-entry page-entry rights-of upper descend leaf translate missing-from zeros becomes with-root with-table grow with-page with-mapping without-page without-mapping drained without-guest released clean
+unfolding answers state-after after-11 after-19 after-32 sharing draining reuse scarce begin after operation answer lowest free-at frees
+    started at-first create give map unmap share unshare take destroy invalidated check shares may-map unshared total free-frames sum all
+    upd upd2 entry table-entry page-entry rights-of upper descend leaf translate missing-from zeros becomes with-root with-table grow
+    with-page with-mapping without-page without-mapping drained without-guest released clean
 drains-then = (refl, refl)
 
 pub handed-on : after-32 .kind 8 ≡ page 2
-unfolding answers state-after after-11 after-19 after-32 sharing draining reuse scarce begin after operation answer lowest free-at frees started at-first create give map unmap share unshare take destroy invalidated check shares may-map unshared total free-frames sum all upd upd2 entry table-entry page-entry rights-of upper descend leaf translate missing-from zeros becomes with-root with-table grow with-page with-mapping without-page without-mapping drained without-guest released clean
+unfolding answers state-after after-11 after-19 after-32 sharing draining reuse scarce begin after operation answer lowest free-at frees
+    started at-first create give map unmap share unshare take destroy invalidated check shares may-map unshared total free-frames sum all
+    upd upd2 entry table-entry page-entry rights-of upper descend leaf translate missing-from zeros becomes with-root with-table grow
+    with-page with-mapping without-page without-mapping drained without-guest released clean
 handed-on = refl
 
 pub first-page : after-11 .first ≡ 0x40000
-unfolding answers state-after after-11 after-19 after-32 sharing draining reuse scarce begin after operation answer lowest free-at frees started at-first create give map unmap share unshare take destroy invalidated check shares may-map unshared total free-frames sum all upd upd2 entry table-entry page-entry rights-of upper descend leaf translate missing-from zeros becomes with-root with-table grow with-page with-mapping without-page without-mapping drained without-guest released clean
+unfolding answers state-after after-11 after-19 after-32 sharing draining reuse scarce begin after operation answer lowest free-at frees
+    started at-first create give map unmap share unshare take destroy invalidated check shares may-map unshared total free-frames sum all
+    upd upd2 entry table-entry page-entry rights-of upper descend leaf translate missing-from zeros becomes with-root with-table grow
+    with-page with-mapping without-page without-mapping drained without-guest released clean
 first-page = refl
 
 pub first-page-19 : after-19 .first ≡ 0x40000
-unfolding answers state-after after-11 after-19 after-32 sharing draining reuse scarce begin after operation answer lowest free-at frees started at-first create give map unmap share unshare take destroy invalidated check shares may-map unshared total free-frames sum all upd upd2 entry table-entry page-entry rights-of upper descend leaf translate missing-from zeros becomes with-root with-table grow with-page with-mapping without-page without-mapping drained without-guest released clean
+unfolding answers state-after after-11 after-19 after-32 sharing draining reuse scarce begin after operation answer lowest free-at frees
+    started at-first create give map unmap share unshare take destroy invalidated check shares may-map unshared total free-frames sum all
+    upd upd2 entry table-entry page-entry rights-of upper descend leaf translate missing-from zeros becomes with-root with-table grow
+    with-page with-mapping without-page without-mapping drained without-guest released clean
 first-page-19 = refl

@@ -1,4 +1,5 @@
--- A second run, computed: a page is shared for writing and two guests write it; one of them is destroyed, its tables drain, and their frames are used again.
+-- A second run, computed: a page is shared for writing and two guests write it; one of them is destroyed, its tables drain, and their
+-- frames are used again.
 -- Lowest first, guest 2's root table is frame 3, and its table where the pages are is frame 10.
 use mathlib.Core.Path.{_≡_, refl, ap, subst, _∙_}
 use mathlib.Core.Bool.{true}
@@ -46,20 +47,37 @@ unfoldable pub others-have : State
 others-have = state-after destroyed used-again
 
 -- the answers, and what the frames are then
-pub steps-1-to-6 : (answers (begin 2) to-write ≡ 0 ∷ 0 ∷ 0 ∷ 0 ∷ 0 ∷ 0 ∷ []) × (both-write .kind 8 ≡ page 1) × (both-write .shared 8 2 ≡ 2) × (translate both-write 1 1 ≡ some (8, 3)) × (translate both-write 2 1 ≡ some (8, 3)) × (both-write .first ≡ 0x40000)
-unfolding answers state-after begin after operation answer lowest free-at frees started at-first create give map unmap share unshare destroy invalidated check shares may-map unshared total free-frames sum all upd upd2 entry table-entry page-entry rights-of upper descend leaf translate missing-from zeros becomes with-root with-table grow with-page with-mapping without-page without-mapping drained without-guest released clean both-write to-write
+pub steps-1-to-6 : (answers (begin 2) to-write ≡ 0 ∷ 0 ∷ 0 ∷ 0 ∷ 0 ∷ 0 ∷ []) × (both-write .kind 8 ≡ page 1) ×
+    (both-write .shared 8 2 ≡ 2) × (translate both-write 1 1 ≡ some (8, 3)) × (translate both-write 2 1 ≡ some (8, 3)) ×
+    (both-write .first ≡ 0x40000)
+unfolding answers state-after begin after operation answer lowest free-at frees started at-first create give map unmap share unshare
+    destroy invalidated check shares may-map unshared total free-frames sum all upd upd2 entry table-entry page-entry rights-of upper
+    descend leaf translate missing-from zeros becomes with-root with-table grow with-page with-mapping without-page without-mapping
+    drained without-guest released clean both-write to-write
 steps-1-to-6 = (refl, refl, refl, refl, refl, refl)
 
-pub steps-7-to-9 : (answers both-write parting ≡ 0 ∷ 0 ∷ 0 ∷ []) × (parted .exists 2 ≡ true) × (parted .root 2 ≡ 3) × (parted .first ≡ 0x40000)
-unfolding answers state-after begin after operation answer lowest free-at frees started at-first create give map unmap share unshare destroy invalidated check shares may-map unshared total free-frames sum all upd upd2 entry table-entry page-entry rights-of upper descend leaf translate missing-from zeros becomes with-root with-table grow with-page with-mapping without-page without-mapping drained without-guest released clean both-write parted to-write parting
+pub steps-7-to-9 : (answers both-write parting ≡ 0 ∷ 0 ∷ 0 ∷ []) × (parted .exists 2 ≡ true) × (parted .root 2 ≡ 3) ×
+    (parted .first ≡ 0x40000)
+unfolding answers state-after begin after operation answer lowest free-at frees started at-first create give map unmap share unshare
+    destroy invalidated check shares may-map unshared total free-frames sum all upd upd2 entry table-entry page-entry rights-of upper
+    descend leaf translate missing-from zeros becomes with-root with-table grow with-page with-mapping without-page without-mapping
+    drained without-guest released clean both-write parted to-write parting
 steps-7-to-9 = (refl, refl, refl, refl)
 
-pub step-10 : (answers parted destroying ≡ 0 ∷ []) × (destroyed .kind 3 ≡ draining-table 2 3 0) × (destroyed .kind 10 ≡ draining-table 2 0 0)
-unfolding answers state-after begin after operation answer lowest free-at frees started at-first create give map unmap share unshare destroy invalidated check shares may-map unshared total free-frames sum all upd upd2 entry table-entry page-entry rights-of upper descend leaf translate missing-from zeros becomes with-root with-table grow with-page with-mapping without-page without-mapping drained without-guest released clean both-write parted destroyed to-write parting destroying
+pub step-10 : (answers parted destroying ≡ 0 ∷ []) × (destroyed .kind 3 ≡ draining-table 2 3 0) ×
+    (destroyed .kind 10 ≡ draining-table 2 0 0)
+unfolding answers state-after begin after operation answer lowest free-at frees started at-first create give map unmap share unshare
+    destroy invalidated check shares may-map unshared total free-frames sum all upd upd2 entry table-entry page-entry rights-of upper
+    descend leaf translate missing-from zeros becomes with-root with-table grow with-page with-mapping without-page without-mapping
+    drained without-guest released clean both-write parted destroyed to-write parting destroying
 step-10 = (refl, refl, refl)
 
-pub steps-11-to-14 : (answers destroyed used-again ≡ 6 ∷ 0 ∷ 0 ∷ 0 ∷ []) × (others-have .kind 3 ≡ table 3 3 0) × (others-have .kind 10 ≡ page 1)
-unfolding answers state-after begin after operation answer lowest free-at frees started at-first create give map unmap share unshare destroy invalidated check shares may-map unshared total free-frames sum all upd upd2 entry table-entry page-entry rights-of upper descend leaf translate missing-from zeros becomes with-root with-table grow with-page with-mapping without-page without-mapping drained without-guest released clean both-write parted destroyed others-have to-write parting destroying used-again
+pub steps-11-to-14 : (answers destroyed used-again ≡ 6 ∷ 0 ∷ 0 ∷ 0 ∷ []) × (others-have .kind 3 ≡ table 3 3 0) ×
+    (others-have .kind 10 ≡ page 1)
+unfolding answers state-after begin after operation answer lowest free-at frees started at-first create give map unmap share unshare
+    destroy invalidated check shares may-map unshared total free-frames sum all upd upd2 entry table-entry page-entry rights-of upper
+    descend leaf translate missing-from zeros becomes with-root with-table grow with-page with-mapping without-page without-mapping
+    drained without-guest released clean both-write parted destroyed others-have to-write parting destroying used-again
 steps-11-to-14 = (refl, refl, refl)
 
 -- the same as a run of the machine
@@ -109,7 +127,11 @@ state-again = asked-state machine-destroyed used-again state-destroyed
 
 -- frame 8 is shared for writing, and both reach it for writing
 pub shared-to-write : (machine-writes .state .kind 8 ≡ page 1) × (machine-writes .state .shared 8 2 ≡ 2)
-shared-to-write = (ap (λ (s : State). s .kind 8) state-writes ∙ steps-1-to-6 .1, ap (λ (s : State). s .shared 8 2) state-writes ∙ steps-1-to-6 .2)
+shared-to-write = (
+  ap (λ (s : State). s .kind 8) state-writes ∙ steps-1-to-6 .1,
+  ap (λ (s : State). s .shared 8 2) state-writes
+      ∙ steps-1-to-6 .2,
+)
 
 pub two-write : Reaches machine-writes 1 writing 0x40008000 × Reaches machine-writes 2 writing 0x40008000
 two-write = (reaches 1 (steps-1-to-6 .3), reaches 2 (steps-1-to-6 .4))
@@ -122,7 +144,8 @@ pub tables-drain : (machine-destroyed .state .kind 3 ≡ draining-table 2 3 0) �
 tables-drain = (ap (λ (s : State). s .kind 3) state-destroyed ∙ step-10 .1, ap (λ (s : State). s .kind 10) state-destroyed ∙ step-10 .2)
 
 -- the processor keeps where a guest's root is, and destroy does not make it forget
-root-kept : (m : Machine) (g : ℕ) → Looked m → m .state .exists g ≡ true → call m (Destroy g) .caches .table-kept g 3 0 (m .state .first + m .state .root g)
+root-kept : (m : Machine) (g : ℕ) → Looked m → m .state .exists g ≡ true →
+    call m (Destroy g) .caches .table-kept g 3 0 (m .state .first + m .state .root g)
 unfolding call
 root-kept m g l e = go (answer (m .state) (Destroy g))
   where
@@ -135,7 +158,8 @@ root-kept m g l e = go (answer (m .state) (Destroy g))
 
 pub root-still-kept : machine-destroyed .caches .table-kept 2 3 0 0x40003
 unfolding machine-destroyed destroying machine-after operation
-root-still-kept = subst (λ (x : ℕ). call machine-parted (Destroy 2) .caches .table-kept 2 3 0 x) root-at (root-kept machine-parted 2 looks (ap (λ (s : State). s .exists 2) state-parted ∙ steps-7-to-9 .1))
+root-still-kept = subst (λ (x : ℕ). call machine-parted (Destroy 2) .caches .table-kept 2 3 0 x) root-at
+    (root-kept machine-parted 2 looks (ap (λ (s : State). s .exists 2) state-parted ∙ steps-7-to-9 .1))
   where
     looks : Looked machine-parted
     looks = unfold machine-parted parting in looked machine-writes (unmaps 2 0x1000) (invalidates 2 ∷ unshares 1 8 2 ∷ [])
@@ -144,4 +168,7 @@ root-still-kept = subst (λ (x : ℕ). call machine-parted (Destroy 2) .caches .
     root-at = ap (λ (s : State). s .first + s .root 2) state-parted ∙ rw (steps-7-to-9 .2, steps-7-to-9 .3) refl
 
 pub tables-used-again : (machine-again .state .kind 3 ≡ table 3 3 0) × (machine-again .state .kind 10 ≡ page 1)
-tables-used-again = (ap (λ (s : State). s .kind 3) state-again ∙ steps-11-to-14 .1, ap (λ (s : State). s .kind 10) state-again ∙ steps-11-to-14 .2)
+tables-used-again = (
+  ap (λ (s : State). s .kind 3) state-again ∙ steps-11-to-14 .1,
+  ap (λ (s : State). s .kind 10) state-again ∙ steps-11-to-14 .2,
+)

@@ -1,6 +1,8 @@
 -- Demand 3: "What one guest can read depends on nothing another does, but for pages shared on purpose."
--- Two computers, set up anyhow, with any RAM. The tables of space c change on both together, at frames that correspond; frames that c is to
--- read hold the same when they are paired (a page that was handed out is all zero); a store to a pair is made on both. All the rest differs
+-- Two computers, set up anyhow, with any RAM. The tables of space c change on both together, at frames that correspond; frames that c is
+-- to
+-- read hold the same when they are paired (a page that was handed out is all zero); a store to a pair is made on both. All the rest
+-- differs
 -- at will, in kind, number and order, also what the processor keeps, of c too. (model_two_computers, Terms: Two)
 use mathlib.Core.Path.{_≡_}
 use mathlib.Core.Bool.{true}

@@ -18,7 +18,8 @@ pub data Frame-use : Type 0 where
   claimed table emptied : (space height range : ℕ) → Frame-use
   page draining : (guest : ℕ) → Frame-use
 
--- serves: the guest. Its root is `wide` frames, from frame `root` on, of this height: 1 frame of height 3 where the walk starts at level 0.
+-- serves: the guest. Its root is `wide` frames, from frame `root` on, of this height: 1 frame of height 3 where the walk starts at level
+-- 0.
 -- A space that no longer exists has its tables until all of it is reported.
 pub record Space : Type 0 where
   pub exists : Bool

@@ -1,5 +1,6 @@
 -- Words for the theorems on two runs: what a guest may read, and which steps of two machines go together.
--- A page that somebody shares with g is shown to g at that moment: its bytes must then be the same in both runs. Nothing else that others stored before counts.
+-- A page that somebody shares with g is shown to g at that moment: its bytes must then be the same in both runs. Nothing else that
+-- others stored before counts.
 use mathlib.Core.Path.{_≡_}
 use mathlib.Core.Bool.{Bool, true, false, _||_}
 use Prim.Native.Nat.{ℕ, _+_, _*_, _<_}
@@ -9,7 +10,8 @@ use Rattle.model.specs.Operations.{Out, refuse, done}
 use Rattle.model.specs.Cache.{writing}
 use Rattle.model.specs.Machine.{Machine, Operation, Create, Give, Take, Map, Unmap, Share, Unshare, Destroy, Invalidated, answer, Chooses, call, write, SetUp, Reaches}
 
--- guest g may read a frame of this kind that is shared with it so (0 not): its own page, a page that is shared with it, a page that drains for it
+-- guest g may read a frame of this kind that is shared with it so (0 not): its own page, a page that is shared with it, a page that
+-- drains for it
 abbrev pub reads : (g : ℕ) → Frame-kind → (how : ℕ) → Bool
 reads g monitor how = false
 reads g free how = false
@@ -50,10 +52,12 @@ pub record Stores (m : Machine) (h f o x : ℕ) : Type 0 where
   pub is-byte : x < 256
   pub reaches : Reaches m h writing ((m .state .first + f) * 4096 + o)
 
--- Steps of two machines, from y and z to y′ and z′: the same operation in both, with the same choice of frames, and where it shows a page to g, that page is the same in both; the same store in both;
+-- Steps of two machines, from y and z to y′ and z′: the same operation in both, with the same choice of frames, and where it shows a
+-- page to g, that page is the same in both; the same store in both;
 -- or a store in one of them only, to a frame that is not shown to g.
 pub data Together (g : ℕ) : (y z y′ z′ : Machine) → Type 1 where
-  both-call : {y z : Machine} (o : Operation) → Chooses (y .state) o → Chooses (z .state) o → ((f : ℕ) → Shows o g f → answered (answer (y .state) o) ≡ true → Same-bytes (y .state) (z .state) f f) →
+  both-call : {y z : Machine} (o : Operation) → Chooses (y .state) o → Chooses (z .state) o →
+      ((f : ℕ) → Shows o g f → answered (answer (y .state) o) ≡ true → Same-bytes (y .state) (z .state) f f) →
       Together g y z (call y o) (call z o)
   both-store : {y z : Machine} (h f o x : ℕ) → Stores y h f o x → Stores z h f o x → Together g y z (write y f o x) (write z f o x)
   first-stores : {y z : Machine} (h f o x : ℕ) → Stores y h f o x → shown (y .state) g f ≡ false → Together g y z (write y f o x) z

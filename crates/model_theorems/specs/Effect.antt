@@ -1,6 +1,9 @@
--- Demand 2: "Every operation does what document 03 says and no more: each address of each guest translates as before, apart from what was asked."
--- Any run from set-up, then an operation with any arguments that is answered 0 (a refusal changes nothing, by the type of Out); every guest h and each of its 2^36 pages v.
--- `expected` (in Terms) is the table of the nine operations. After map, a translates to f with rights r; after unmap and destroy, to nothing.
+-- Demand 2: "Every operation does what document 03 says and no more: each address of each guest translates as before, apart from what
+-- was asked."
+-- Any run from set-up, then an operation with any arguments that is answered 0 (a refusal changes nothing, by the type of Out); every
+-- guest h and each of its 2^36 pages v.
+-- `expected` (in Terms) is the table of the nine operations. After map, a translates to f with rights r; after unmap and destroy, to
+-- nothing.
 use mathlib.Core.Path.{_≡_}
 use Prim.Native.Nat.{ℕ, _<_}
 use Rattle.model.specs.State.{State, page-count}

@@ -12,7 +12,8 @@ pub mod Refusal
 pub mod Frames
 -- An owner always gets a page back.
 pub mod Reclaim
--- The bytes: document 01's walk on RAM finds what the state says; what map and unmap do to it; what it finds is what reach speaks of; RAM holds the words.
+-- The bytes: document 01's walk on RAM finds what the state says; what map and unmap do to it; what it finds is what reach speaks of;
+-- RAM holds the words.
 pub mod Bridge
 pub mod RoundTrip
 pub mod WalkReaches

@@ -11,6 +11,7 @@ use Rattle.model.specs.Machine.{Machine, SetUp, Run, Reaches}
 use Rattle.model.proofs.Invariant.Holds.{holds}
 use Rattle.model.proofs.Invariant.Reaching.{reaches-mapped}
 
-pub reaches : {m z : Machine} → SetUp m → Run m z → (g v f r : ℕ) (w : Access) (o : ℕ) → v < page-count → translate (z .state) g v ≡ some (f, r) → grants r w ≡ true → o < 4096 →
+pub reaches : {m z : Machine} → SetUp m → Run m z → (g v f r : ℕ) (w : Access) (o : ℕ) → v < page-count →
+    translate (z .state) g v ≡ some (f, r) → grants r w ≡ true → o < 4096 →
     Reaches z g w ((z .state .first + f) * 4096 + o)
 reaches {z} x r g v f r′ w o = reaches-mapped z (holds x r .core) g v f r′ w o

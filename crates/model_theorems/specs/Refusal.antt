@@ -1,5 +1,6 @@
 -- Demand 2: "A refused operation leaves memory and ledger byte for byte as they were, also where it ran out of table pages on the way."
--- Any machine and operation that is refused: the state after the call is the state before it. (A refusal carries a number and no state, so this is by the type of Out.)
+-- Any machine and operation that is refused: the state after the call is the state before it. (A refusal carries a number and no state,
+-- so this is by the type of Out.)
 use mathlib.Core.Path.{_≡_, ap}
 use Prim.Native.Nat.{ℕ}
 use Rattle.model.specs.Operations.{Out, refuse}

@@ -12,8 +12,10 @@ use Rattle.model.proofs.Invariant.Holds.{holds}
 use Rattle.model.proofs.Invariant.LinkedAlways.{uncounted}
 use Rattle.model.proofs.Invariant.Effects.{unmapped-after}
 
-pub unmapped : {m z : Machine} → SetUp m → Run m z → (g a : ℕ) (s′ : State) → unmap (z .state) a g ≡ done s′ → translate s′ g (a / 4096) ≡ none
+pub unmapped : {m z : Machine} → SetUp m → Run m z → (g a : ℕ) (s′ : State) → unmap (z .state) a g ≡ done s′ →
+    translate s′ g (a / 4096) ≡ none
 unmapped {z} x r g a s′ e = unmapped-after (z .state) (holds x r .core) g a s′ e
 
-pub no-address : {m z : Machine} → SetUp m → Run m z → (f g : ℕ) → z .state .count f g ≡ 0 → (v r : ℕ) → v < page-count → translate (z .state) g v ≡ some (f, r) → ⊥
+pub no-address : {m z : Machine} → SetUp m → Run m z → (f g : ℕ) → z .state .count f g ≡ 0 → (v r : ℕ) → v < page-count →
+    translate (z .state) g v ≡ some (f, r) → ⊥
 no-address {z} x r f g = uncounted (z .state) (holds x r .core) f g

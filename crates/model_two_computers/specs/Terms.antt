@@ -1,5 +1,7 @@
--- Words for "What one guest can read depends on nothing another does" (demand 3): all that space c reads, pages of its guest and pages that
--- are lent to it, on two computers. Frames may have other numbers on the other computer: a correspondence R pairs a frame of the first with
+-- Words for "What one guest can read depends on nothing another does" (demand 3): all that space c reads, pages of its guest and pages
+-- that
+-- are lent to it, on two computers. Frames may have other numbers on the other computer: a correspondence R pairs a frame of the first
+-- with
 -- one of the second. c itself never sees these numbers.
 use mathlib.Core.Path.{_≡_}
 use mathlib.Core.Bool.{Bool, true, false}

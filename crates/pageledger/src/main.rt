@@ -4,11 +4,11 @@ ghost use Prim.Native.Nat.{_+_, _≤_};
 ghost use lib.ListN.{length};
 ghost use Rattle.script.specs.LineAnswered.{room-for, Room};
 ghost use Rattle.pageledger.specs.Progress.{Progress-sound};
+use ledger::columns::HEADER_WORDS;
+use ledger::columns::ROW_WORDS;
 use libc::STDIN_FILENO;
 use libc::STDOUT_FILENO;
-use script_machine::HEADER_WORDS;
 use script_machine::Machine;
-use script_machine::ROW_WORDS;
 
 // The frames that a script can have.
 const FRAMES: usize = 1024;

@@ -11,11 +11,6 @@ mod questions;
 mod start;
 mod words;
 
-// The words of a ledger: its header with the guests, and a row for each frame.
-pub const HEADER_WORDS: u64 = 144;
-
-pub const ROW_WORDS: u64 = 16;
-
 // The machine that `setup` made: RAM is the first `frames` frames of the lent slice, from physical address `base`. No frames: none yet.
 // Ready: the ledger is what `setup` and the operations have made, and no `word` has hit a table since.
 pub struct Machine {

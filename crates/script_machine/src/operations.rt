@@ -5,11 +5,11 @@ ghost use Rattle.monitor.specs.Answers.{Answers};
 ghost use Rattle.script_language.specs.declared.Command.the-variants.{Operate};
 ghost use Rattle.script_machine.specs.Operations.{operation};
 ghost use Rattle.script_machine.specs.Machine.{Machine-sound, Executed};
-use super::HEADER_WORDS;
 use super::Machine;
 use super::Outcome;
-use super::ROW_WORDS;
 use super::Reply;
+use ledger::columns::HEADER_WORDS;
+use ledger::columns::ROW_WORDS;
 use script_language::Operation;
 
 // Calls the monitor.

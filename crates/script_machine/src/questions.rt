@@ -6,11 +6,11 @@ ghost use Rattle.ledger.specs.Sound.{Sound};
 ghost use Rattle.monitor_query.specs.Questions.{guest-told, translated};
 ghost use Rattle.script_machine.specs.declared.Reply.the-variants.{Number, Walked, Guest};
 ghost use Rattle.script_machine.specs.Machine.{no-such-guest, Ram-lent, Machine-sound, ram-of, ledger-of, stage2-reply, walk-reply, translate-reply, if-ready, reply-to};
-use super::HEADER_WORDS;
 use super::Machine;
-use super::ROW_WORDS;
 use super::Reply;
 use super::words::peek_word;
+use ledger::columns::HEADER_WORDS;
+use ledger::columns::ROW_WORDS;
 use ledger::guest;
 use script_language::Question;
 

@@ -2,11 +2,11 @@
 ghost use mathlib.Core.Path.{_≡_};
 ghost use Rattle.script_language.specs.declared.Command.the-variants.{SetUp};
 ghost use Rattle.script_machine.specs.Machine.{Machine-sound, allowed-of, Executed};
-use super::HEADER_WORDS;
 use super::Machine;
 use super::Outcome;
-use super::ROW_WORDS;
 use super::Reply;
+use ledger::columns::HEADER_WORDS;
+use ledger::columns::ROW_WORDS;
 
 // Document 03, section 2.
 const OUT_OF_RANGE: u64 = 4;

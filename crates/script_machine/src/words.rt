@@ -8,19 +8,15 @@ ghost use Rattle.ledger.specs.Layout.{size-of, kind-of};
 ghost use Rattle.ledger.specs.LedgerSound.{Ledger-sound};
 ghost use Rattle.script_language.specs.declared.Command.the-variants.{StoreWord};
 ghost use Rattle.script_machine.specs.Machine.{word-bytes, Ram-lent, Machine-sound, word-in-ram, word-in-table, peek-reply, Executed};
-use super::HEADER_WORDS;
 use super::Machine;
 use super::Outcome;
-use super::ROW_WORDS;
 use super::Reply;
+use ledger::columns::HEADER_WORDS;
+use ledger::columns::ROW_WORDS;
 use ledger::frame;
+use ledger::kinds;
 
 const WORD_BYTES: u64 = 8;
-
-// What a frame is, by its number in the ledger.
-const TABLE: u64 = 2;
-
-const DRAINING_TABLE: u64 = 3;
 
 // Are the eight bytes at physical address a all in RAM?
 fn in_ram(m: Machine, a: u64) -> bool
@@ -47,10 +43,10 @@ fn holds_table(ledger: &[u32], f: u64) -> bool
     ensures { λ r. ⌜ r ≡ tabled (kind-of (now (ledger .entry)) f) ⌝ }
 {
     let k = frame::kind(ledger, f);
-    if k == TABLE {
+    if k == kinds::TABLE {
         return true;
     }
-    k == DRAINING_TABLE
+    k == kinds::DRAINING_TABLE
 }
 
 // A word may lie in two frames.

@@ -1,5 +1,7 @@
--- Any sequence of calls of the monitor's functions on the two slices, with guests' stores of bytes between them, from a set-up that was answered with 0, is a run of the model from set-up.
--- So every theorem of the page Isolation about one run of the model holds of the two slices; and what each function requires is met before every call.
+-- Any sequence of calls of the monitor's functions on the two slices, with guests' stores of bytes between them, from a set-up that was
+-- answered with 0, is a run of the model from set-up.
+-- So every theorem of the page Isolation about one run of the model holds of the two slices; and what each function requires is met
+-- before every call.
 use mathlib.Core.Path.{refl}
 use Rattle.model.specs.Machine as M
 use Rattle.model.proofs.Invariant.Holds.{nothing-ok}
@@ -24,7 +26,8 @@ begun-is {x} h = record {
   b = h .b;
   k = h .k;
   word = word-of (x .ram);
-  accepted = accepted (slices-fit (h .n) (x .ram) (h .ledger-before)) (h .b) (h .n) (h .k) (x .ram) (h .ledger-before) (x .ledger) (h .answered .outcome);
+  accepted = accepted (slices-fit (h .n) (x .ram) (h .ledger-before)) (h .b) (h .n) (h .k) (x .ram) (h .ledger-before) (x .ledger)
+      (h .answered .outcome);
   fresh = h .fresh;
 }
 

@@ -1,4 +1,5 @@
--- Each step of the two slices is a step of the model, and what the operations count on holds again after it (Fit): so every call's `requires` is met in any sequence.
+-- Each step of the two slices is a step of the model, and what the operations count on holds again after it (Fit): so every call's
+-- `requires` is met in any sequence.
 use mathlib.Core.Path.{_≡_, refl, sym, ap, _∙_, subst}
 use mathlib.Core.Bool.{Bool, true, false}
 use mathlib.Core.List.{List}
@@ -33,7 +34,8 @@ fit-holds h = record { core = h .sound .core; kept = h .kept }
 abbrev of-both : State → Caches → M.Machine
 of-both s k = record { state = s; caches = k }
 
-machine-is : (y : Slices) (s : State) (k k′ : Caches) → state-of (y .ram) (y .ledger) ≡ s → Looks y k → k ≡ k′ → machine y ≡ of-both s (grown s k′)
+machine-is : (y : Slices) (s : State) (k k′ : Caches) → state-of (y .ram) (y .ledger) ≡ s → Looks y k → k ≡ k′ →
+    machine y ≡ of-both s (grown s k′)
 machine-is y s k k′ e look q =
     ap (of-both (state-of (y .ram) (y .ledger))) look
     ∙ ap (λ (z : State). of-both z (grown z k)) e
@@ -76,21 +78,25 @@ module _ (x y : Slices) where
   unfolding M.call M.settle
   after-call c r a =
       go (defined c (state-of (x .ram) (x .ledger)) (pick-of (x .ledger))) refl (a .answers .outcome)
-      ∙ ap (M.settle (machine x) (M.keeps (x .caches) (in-model c (pick-of (x .ledger))))) (defined-is c (state-of (x .ram) (x .ledger)) (pick-of (x .ledger)))
+      ∙ ap (M.settle (machine x) (M.keeps (x .caches) (in-model c (pick-of (x .ledger)))))
+      (defined-is c (state-of (x .ram) (x .ledger)) (pick-of (x .ledger)))
     where
-      go : (u : Out) → defined c (state-of (x .ram) (x .ledger)) (pick-of (x .ledger)) ≡ u → Outcome u (x .ram) (x .ledger) r (y .ram) (y .ledger) →
+      go : (u : Out) → defined c (state-of (x .ram) (x .ledger)) (pick-of (x .ledger)) ≡ u →
+          Outcome u (x .ram) (x .ledger) r (y .ram) (y .ledger) →
           machine y ≡ M.settle (machine x) (M.keeps (x .caches) (in-model c (pick-of (x .ledger)))) u
       go (refuse n) e o =
           machine-is y (state-of (x .ram) (x .ledger)) (kept-after c r (x .caches)) (x .caches)
           (ap (λ (m : List ℕ). state-of m (y .ledger)) (o .1) ∙ ap (λ (l : List ℕ). state-of (x .ram) l) (o .2))
           (a .looks) (kept-refused c (state-of (x .ram) (x .ledger)) (pick-of (x .ledger)) n r (x .caches) e (o .0))
-      go (done s) e o = machine-is y s (kept-after c r (x .caches)) (M.keeps (x .caches) (in-model c (pick-of (x .ledger)))) (o .1) (a .looks) (kept-done c (pick-of (x .ledger)) r (x .caches) (o .0))
+      go (done s) e o = machine-is y s (kept-after c r (x .caches)) (M.keeps (x .caches) (in-model c (pick-of (x .ledger)))) (o .1)
+          (a .looks) (kept-done c (pick-of (x .ledger)) r (x .caches) (o .0))
 
   pub after-store : Fit x → (g f o b : ℕ) → Stored g f o b x y → machine y ≡ M.write (machine x) f o b
   unfolding M.write
   after-store h g f o b a =
       machine-is y (M.stored (state-of (x .ram) (x .ledger)) f o b) (x .caches) (x .caches)
-      (ap (λ (m : List ℕ). state-of m (y .ledger)) (a .ram-after) ∙ ap (λ (l : List ℕ). state-of (set (x .ram) (f * 4096 + o) b) l) (a .ledger-after)
+      (ap (λ (m : List ℕ). state-of m (y .ledger)) (a .ram-after)
+      ∙ ap (λ (l : List ℕ). state-of (set (x .ram) (f * 4096 + o) b) l) (a .ledger-after)
       ∙ state-put (x .ram) (x .bytes) b f o (within (x .ram) (x .ledger) (h .sound) f (a .in-ram)) (a .in-frame) (x .ledger))
       (a .looks) refl
 
@@ -101,9 +107,11 @@ chosen-so {x} h c = chooses c (state-of (x .ram) (x .ledger)) (pick-of (x .ledge
 pub step-is-step : {x y : Slices} → Fit x → Step x y → M.Step (machine x) (machine y)
 unfolding state-in
 step-is-step {x} {y} h (called c r a) =
-    subst (λ (z : M.Machine). M.Step (machine x) z) (sym (after-call x y c r a)) (M.calls (in-model c (pick-of (x .ledger))) (chosen-so h c))
+    subst (λ (z : M.Machine). M.Step (machine x) z) (sym (after-call x y c r a))
+    (M.calls (in-model c (pick-of (x .ledger))) (chosen-so h c))
 step-is-step {x} {y} h (stored g f o b a) =
-    subst (λ (z : M.Machine). M.Step (machine x) z) (sym (after-store x y h g f o b a)) (M.stores g f o b (a .lives) (a .in-ram) (a .in-frame) (a .is-byte) (a .reaches))
+    subst (λ (z : M.Machine). M.Step (machine x) z) (sym (after-store x y h g f o b a))
+    (M.stores g f o b (a .lives) (a .in-ram) (a .in-frame) (a .is-byte) (a .reaches))
 
 pub step-fits : {x y : Slices} → Fit x → Step x y → Fit y
 step-fits {x} {y} h s = record { sound = go s (after .core); kept = after .kept }
@@ -115,6 +123,7 @@ step-fits {x} {y} h s = record { sound = go s (after .core); kept = after .kept 
     go (called c r a) core = a .answers .sound
     go (stored g f o b a) core = record {
       ledger-sound = subst (λ (l : List ℕ). Ledger-sound l) (sym (a .ledger-after)) (h .sound .ledger-sound);
-      ram-fits = ap (λ (m : List ℕ). length m) (a .ram-after) ∙ length-set (x .ram) (f * 4096 + o) b ∙ h .sound .ram-fits ∙ ap (λ (l : List ℕ). size-of l * 4096) (sym (a .ledger-after));
+      ram-fits = ap (λ (m : List ℕ). length m) (a .ram-after) ∙ length-set (x .ram) (f * 4096 + o) b ∙ h .sound .ram-fits
+          ∙ ap (λ (l : List ℕ). size-of l * 4096) (sym (a .ledger-after));
       core = core;
     }

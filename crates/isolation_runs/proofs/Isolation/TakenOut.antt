@@ -120,6 +120,7 @@ module _ (x y : Slices) (h : Fit x) (g : ℕ) (a : Called (Create g) 0 x y) wher
             (upper (z .0) (r .0) / 512 * 512 + upper (z .0) (r .0) % 512)
             (state-of (y .ram) (y .ledger) .word (z .1) (upper (z .0) (r .0) % 512)) (e .0) (r .1)
             (k .sound .core .tables (z .1) g (z .0) (upper (z .0) (r .0) / 512) d (upper (z .0) (r .0) % 512) i<)
-            (ap (descriptor (z .0)) (sym (words-low (state-of (y .ram) (y .ledger) .word) (z .1) (upper (z .0) (r .0) % 512) i<)) ∙ e .1) in
+            (ap (descriptor (z .0)) (sym (words-low (state-of (y .ram) (y .ledger) .word) (z .1) (upper (z .0) (r .0) % 512) i<)) ∙ e .1)
+            in
             no-table (z .1) (upper (z .0) (r .0) / 512) (d ∙ ap (λ (n : ℕ). table g n (upper (z .0) (r .0) / 512)) (o .0))
       ]

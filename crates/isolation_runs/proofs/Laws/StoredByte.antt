@@ -30,7 +30,8 @@ put-next k d r x l = let z : (d + 256 * r) / 256 ≡ r = omega arith in rw z (om
 module _ (m : List ℕ) (low : (i : ℕ) → getD m i 0 < 256) (x : ℕ) where
   bytes-put : (n at k : ℕ) → k ≤ n → at + k < length m → bytes-from n (set m (at + k) x) at ≡ put-byte k (bytes-from n m at) x
   unfolding bytes-from
-  bytes-put zero at zero l room = only (low at) (ap (λ (i : ℕ). getD (set m i x) at 0) (omega arith) ∙ getD-set-same m at x 0 (omega arith))
+  bytes-put zero at zero l room = only (low at) (ap (λ (i : ℕ). getD (set m i x) at 0) (omega arith)
+      ∙ getD-set-same m at x 0 (omega arith))
     where
       only : getD m at 0 < 256 → getD (set m (at + 0) x) at 0 ≡ x → getD (set m (at + 0) x) at 0 ≡ put-byte 0 (getD m at 0) x
       only a e = unfold put-byte in omega arith

@@ -81,7 +81,16 @@ same-length c = search needs
 
 returns : tie.Need-returns
 unfolding stored-at
-returns c = simp (c .before .before .before .before .before .before .before .low .ensures, c .before .before .before .before .before .before .low2 .ensures, c .before .before .before .before .before .low3 .ensures, c .before .before .before .before .low4 .ensures, c .before .before .before .low5 .ensures, c .before .before .low6 .ensures, c .before .low7 .ensures, c .low8 .ensures)
+returns c = simp (
+  c .before .before .before .before .before .before .before .low .ensures,
+  c .before .before .before .before .before .before .low2 .ensures,
+  c .before .before .before .before .before .low3 .ensures,
+  c .before .before .before .before .low4 .ensures,
+  c .before .before .before .low5 .ensures,
+  c .before .before .low6 .ensures,
+  c .before .low7 .ensures,
+  c .low8 .ensures,
+)
 
 pub store-word-spec : {M : Type 1} → statement M
 store-word-spec =

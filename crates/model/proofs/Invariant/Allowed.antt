@@ -20,7 +20,8 @@ use Rattle.model.proofs.Invariant.Holds.{Holds, reached}
 
 lends-is : (how r : ℕ) (w : Access) → shares how r ≡ true → grants r w ≡ true → lends how w ≡ true
 unfolding shares
-lends-is how r reading e q = let a = ltb-true 0 how (and-true (ltb 0 how) (ltb r 4) (and-true (ltb 0 how && ltb r 4) (ltb r 2 || leb 2 how) e .0) .0) in le-leb 1 how (omega arith)
+lends-is how r reading e q = let a = ltb-true 0 how (and-true (ltb 0 how) (ltb r 4)
+    (and-true (ltb 0 how && ltb r 4) (ltb r 2 || leb 2 how) e .0) .0) in le-leb 1 how (omega arith)
 lends-is how r writing e q =
     let a = eqb-true (r / 2 % 2) 1 q in
     let b : 2 ≤ r = omega arith in
@@ -48,7 +49,8 @@ reach-allowed {z} h g w a x =
     (b .0, b .2, allowed-low (z .state) (h .core) g (b .0) w m, m)
 
 -- where the frame is known
-pub frame-allowed : {z : Machine} → Holds z → (g : ℕ) (w : Access) (a f : ℕ) → a / 4096 ≡ z .state .first + f → Reaches z g w a → Allowed (z .state) g f w
+pub frame-allowed : {z : Machine} → Holds z → (g : ℕ) (w : Access) (a f : ℕ) → a / 4096 ≡ z .state .first + f → Reaches z g w a →
+    Allowed (z .state) g f w
 frame-allowed {z} h g w a f e x =
     let b = reach-allowed h g w a x in
     let b1 = b .1 in
@@ -75,7 +77,8 @@ of-owner s g f o w e (inr (inl a)) = inr (a .2)
 of-owner s g f o w e (inr (inr a)) = absurd (clash {x = page o} {y = draining-page g} (sym e ∙ a) refl)
 
 -- frames that are neither pages nor drain as pages
-pub not-allowed : (s : State) (g f : ℕ) (w : Access) (x : Frame-kind) → s .kind f ≡ x → eqb PAGE (kind-number x) ≡ false → eqb DRAINING-PAGE (kind-number x) ≡ false → Allowed s g f w → ⊥
+pub not-allowed : (s : State) (g f : ℕ) (w : Access) (x : Frame-kind) → s .kind f ≡ x → eqb PAGE (kind-number x) ≡ false →
+    eqb DRAINING-PAGE (kind-number x) ≡ false → Allowed s g f w → ⊥
 not-allowed s g f w x e a b (inl h) = clash {x = page g} {y = x} (sym h ∙ e) a
 not-allowed s g f w x e a b (inr (inl h)) = clash {x = page (h .0)} {y = x} (sym (h .1) ∙ e) a
 not-allowed s g f w x e a b (inr (inr h)) = clash {x = draining-page g} {y = x} (sym h ∙ e) b

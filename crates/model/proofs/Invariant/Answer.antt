@@ -41,7 +41,13 @@ Good k o = Then (Sound k) o
 
 -- no cache is needed to keep Core
 pub core-alone : (s : State) (o : Out) → ((k : Caches) → Kept s k → Good k o) → Then Core o
-core-alone s o h = then-more o (λ s x. x .core) (h nothing-kept (record { table-ok = λ g h p x a. absurd a; page-ok = λ g v x r a. absurd a; table-now = λ g h p x d a. absurd a; page-now = λ g v x r d a. absurd a }))
+core-alone s o h = then-more o (λ s x. x .core) (h nothing-kept
+    (record {
+      table-ok = λ g h p x a. absurd a;
+      page-ok = λ g v x r a. absurd a;
+      table-now = λ g h p x d a. absurd a;
+      page-now = λ g v x r d a. absurd a;
+    }))
 
 -- what the test of map says
 pub may-is : (s : State) (g f r : ℕ) → may-map s f g r ≡ true → May s g f r

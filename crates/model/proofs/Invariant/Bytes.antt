@@ -15,7 +15,8 @@ use Rattle.model.proofs.Invariant.Orderly.{orderly}
 pub byte-put-same : (k w x : ℕ) → x < 256 → byte-of k (put-byte k w x) ≡ x
 unfolding byte-of put-byte
 byte-put-same zero w x l = omega arith
-byte-put-same (suc k) w x l = let z : (put-byte k (w / 256) x * 256 + w % 256) / 256 ≡ put-byte k (w / 256) x = omega arith in rw z (byte-put-same k (w / 256) x l)
+byte-put-same (suc k) w x l = let z : (put-byte k (w / 256) x * 256 + w % 256) / 256 ≡ put-byte k (w / 256) x =
+    omega arith in rw z (byte-put-same k (w / 256) x l)
 
 pub byte-put-other : (j k w x : ℕ) → x < 256 → (j ≡ k → ⊥) → byte-of j (put-byte k w x) ≡ byte-of j w
 unfolding byte-of put-byte
@@ -31,7 +32,8 @@ unfolding byte-of
 byte-zero zero = refl
 byte-zero (suc k) = byte-zero k
 
-pub bytes-stay : (s : State) (c : Core s) (o : Operation) → Chooses s o → (s′ : State) → answer s o ≡ done s′ → (f : ℕ) (x : Frame-kind) → s .kind f ≡ x → eqb FREE (kind-number x) ≡ false → eqb TABLE (kind-number x) ≡ false →
+pub bytes-stay : (s : State) (c : Core s) (o : Operation) → Chooses s o → (s′ : State) → answer s o ≡ done s′ → (f : ℕ) (x : Frame-kind) →
+    s .kind f ≡ x → eqb FREE (kind-number x) ≡ false → eqb TABLE (kind-number x) ≡ false →
     (i : ℕ) → byte s′ f i ≡ byte s f i
 unfolding byte
 bytes-stay s c o ch s′ e f x k a b i = ap (byte-of (i % 8)) (then-is (answer s o) s′ (orderly s c o ch) e .words f x k a b (i / 8))

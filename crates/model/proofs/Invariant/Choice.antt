@@ -18,7 +18,8 @@ one-if-free x = cond (is-free x) 1 0
 pub free-less : (n : ℕ) (kind : ℕ → Frame-kind) (t : ℕ) (y : Frame-kind) → t < n → kind t ≡ free → is-free y ≡ false →
     sum n (λ f. one-if-free (upd kind t y f)) + 1 ≡ sum n (λ f. one-if-free (kind f))
 free-less n kind t y l e z =
-    let a = sum-point n (λ f. one-if-free (upd kind t y f)) (λ f. one-if-free (kind f)) t l (λ j ne. ap (λ (x : Frame-kind). one-if-free x) (upd-other kind t y j ne)) in
+    let a = sum-point n (λ f. one-if-free (upd kind t y f)) (λ f. one-if-free (kind f)) t l
+    (λ j ne. ap (λ (x : Frame-kind). one-if-free x) (upd-other kind t y j ne)) in
     let b : one-if-free (kind t) ≡ 1 = rw e in
     let d : one-if-free (upd kind t y t) ≡ 0 = rw (upd-same kind t y, z) in
     omega arith
@@ -38,4 +39,5 @@ module _ (s : State) (c : Core s) (pick : ℕ → ℕ) (ch : Choice s pick) (som
   }
     where
       kinds : (j : ℕ) → suc j < free-frames s → with-table s t i (pick 0) g h q .kind (pick (suc j)) ≡ free
-      kinds j l = unfold with-table in upd-other (s .kind) (pick 0) (table g h q) (pick (suc j)) (ch .once (suc j) 0 l (omega arith)) ∙ ch .frees (suc j) l
+      kinds j l = unfold with-table in upd-other (s .kind) (pick 0) (table g h q) (pick (suc j)) (ch .once (suc j) 0 l (omega arith))
+          ∙ ch .frees (suc j) l

@@ -27,13 +27,16 @@ pub fits-keep : (kind kind′ : ℕ → Frame-kind) (M M′ : (g f r : ℕ) → 
 fits-keep kind kind′ M M′ g = leads-keep (λ t h q. kind t ≡ table g h q) (λ t h q. kind′ t ≡ table g h q) (M g) (M′ g)
 
 pub stale-keep : (kind kind′ : ℕ → Frame-kind) (g : ℕ) →
-    ((t h p : ℕ) → kind t ≡ draining-table g h p → kind′ t ≡ draining-table g h p) → ((f : ℕ) → kind f ≡ draining-page g → kind′ f ≡ draining-page g) →
+    ((t h p : ℕ) → kind t ≡ draining-table g h p → kind′ t ≡ draining-table g h p) →
+    ((f : ℕ) → kind f ≡ draining-page g → kind′ f ≡ draining-page g) →
     (h q : ℕ) (e : Entry) → Stale kind g h q e → Stale kind′ g h q e
 stale-keep kind kind′ g a b h q e =
-    leads-keep (λ t h q. kind t ≡ draining-table g h q) (λ t h q. kind′ t ≡ draining-table g h q) (λ f r. kind f ≡ draining-page g) (λ f r. kind′ f ≡ draining-page g) a h q e (λ f r _ _. b f)
+    leads-keep (λ t h q. kind t ≡ draining-table g h q) (λ t h q. kind′ t ≡ draining-table g h q) (λ f r. kind f ≡ draining-page g)
+    (λ f r. kind′ f ≡ draining-page g) a h q e (λ f r _ _. b f)
 
 pub low : (s : State) → Core s → (t : ℕ) (x : Frame-kind) → s .kind t ≡ x → eqb MONITOR (kind-number x) ≡ false → t < s .size
 low s c t x h q = elim (lt? t (s .size)) [ inl l ↦ l | inr l ↦ absurd (clash {x = monitor} {y = x} (sym (c .beyond t l) ∙ h) q) ]
 
-pub in-room : (s : State) → Core s → (t : ℕ) (x : Frame-kind) → s .kind t ≡ x → eqb MONITOR (kind-number x) ≡ false → s .first + t < page-count
+pub in-room : (s : State) → Core s → (t : ℕ) (x : Frame-kind) → s .kind t ≡ x → eqb MONITOR (kind-number x) ≡ false →
+    s .first + t < page-count
 in-room s c t x h q = let l = low s c t x h q in let r = c .room in omega arith

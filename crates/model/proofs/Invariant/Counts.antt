@@ -53,21 +53,27 @@ hit-plain (page h) e f g q = refl
 hit-plain (draining-page h) e f g q = refl
 
 module _ (s s′ : State) (f g : ℕ) where
-  pub places-cong : s .size ≡ s′ .size → ((t i : ℕ) → t < s .size → i < 512 → hit (s .kind t) (entry-at s t i) f g ≡ hit (s′ .kind t) (entry-at s′ t i) f g) → places s f g ≡ places s′ f g
+  pub places-cong : s .size ≡ s′ .size → ((t i : ℕ) → t < s .size → i < 512 →
+      hit (s .kind t) (entry-at s t i) f g ≡ hit (s′ .kind t) (entry-at s′ t i) f g) → places s f g ≡ places s′ f g
   unfolding places
   places-cong e a =
-      sum-cong (s .size) (λ t. sum 512 (λ i. hit (s .kind t) (entry-at s t i) f g)) (λ t. sum 512 (λ i. hit (s′ .kind t) (entry-at s′ t i) f g)) (λ t l.
+      sum-cong (s .size) (λ t. sum 512 (λ i. hit (s .kind t) (entry-at s t i) f g))
+      (λ t. sum 512 (λ i. hit (s′ .kind t) (entry-at s′ t i) f g)) (λ t l.
       sum-cong 512 (λ i. hit (s .kind t) (entry-at s t i) f g) (λ i. hit (s′ .kind t) (entry-at s′ t i) f g) (λ i m. a t i l m))
       ∙ rw e
 
   -- one entry is changed
-  pub places-point : (t i : ℕ) → s .size ≡ s′ .size → t < s .size → i < 512 → ((t′ i′ : ℕ) → (t′ ≡ t → i′ ≡ i → ⊥) → hit (s′ .kind t′) (entry-at s′ t′ i′) f g ≡ hit (s .kind t′) (entry-at s t′ i′) f g) →
+  pub places-point : (t i : ℕ) → s .size ≡ s′ .size → t < s .size → i < 512 →
+      ((t′ i′ : ℕ) → (t′ ≡ t → i′ ≡ i → ⊥) → hit (s′ .kind t′) (entry-at s′ t′ i′) f g ≡ hit (s .kind t′) (entry-at s t′ i′) f g) →
       places s′ f g + hit (s .kind t) (entry-at s t i) f g ≡ places s f g + hit (s′ .kind t) (entry-at s′ t i) f g
   unfolding places
-  places-point t i e l m a = rw (← e) (sum2-point (s .size) 512 (λ x y. hit (s′ .kind x) (entry-at s′ x y) f g) (λ x y. hit (s .kind x) (entry-at s x y) f g) t i l m a)
+  places-point t i e l m a = rw (← e) (sum2-point (s .size) 512 (λ x y. hit (s′ .kind x) (entry-at s′ x y) f g)
+      (λ x y. hit (s .kind x) (entry-at s x y) f g) t i l m a)
 
-pub places-zero : (s : State) (f g : ℕ) → places s f g ≡ 0 → (t p i r : ℕ) → t < s .size → i < 512 → s .kind t ≡ table g 0 p → entry-at s t i ≡ to-page f r → ⊥
+pub places-zero : (s : State) (f g : ℕ) → places s f g ≡ 0 → (t p i r : ℕ) → t < s .size → i < 512 → s .kind t ≡ table g 0 p →
+    entry-at s t i ≡ to-page f r → ⊥
 unfolding places
 places-zero s f g z t p i r l m a b =
-    let c = sum-zero 512 (λ i. hit (s .kind t) (entry-at s t i) f g) (sum-zero (s .size) (λ t. sum 512 (λ i. hit (s .kind t) (entry-at s t i) f g)) z t l) i m in
+    let c = sum-zero 512 (λ i. hit (s .kind t) (entry-at s t i) f g)
+    (sum-zero (s .size) (λ t. sum 512 (λ i. hit (s .kind t) (entry-at s t i) f g)) z t l) i m in
     omega (arith, hit-page (s .kind t) (entry-at s t i) f g p r a b)

@@ -30,7 +30,8 @@ module _ (s : State) (c : Core s) (g t : ℕ) (none : s .exists g ≡ false) (hg
   from : (u : ℕ) (x : Frame-kind) → upd (s .kind) t (table g 3 0) u ≡ x → eqb TABLE (kind-number x) ≡ false → s .kind u ≡ x
   from u x a k = kind-from (s .kind) t (table g 3 0) u x a k
 
-  pub root-word : (u : ℕ) (x : Frame-kind) → s .kind u ≡ x → eqb FREE (kind-number x) ≡ false → (j : ℕ) → upd (s .word) t zeros u j ≡ s .word u j
+  pub root-word : (u : ℕ) (x : Frame-kind) → s .kind u ≡ x → eqb FREE (kind-number x) ≡ false → (j : ℕ) →
+      upd (s .word) t zeros u j ≡ s .word u j
   root-word u x a k j = rw (upd-other (s .word) t zeros u (λ (e : u ≡ t). clash {x = free} {y = x} (sym hf ∙ ap (s .kind) (sym e) ∙ a) k))
 
   may : (g′ f r : ℕ) → May s g′ f r → May (with-root s g t) g′ f r
@@ -55,16 +56,19 @@ module _ (s : State) (c : Core s) (g t : ℕ) (none : s .exists g ≡ false) (hg
       | inr e ↦
           let b = sym (upd-other (s .kind) t (table g 3 0) u e) ∙ a in
           rw (root-word u (table h n p) b refl j)
-          (fits-keep (s .kind) (upd (s .kind) t (table g 3 0)) (May s) (May (with-root s g t)) h (λ t n p b. keep t (table h n p) b refl) n (p * 512 + j) (entry-at s u j)
+          (fits-keep (s .kind) (upd (s .kind) t (table g 3 0)) (May s) (May (with-root s g t)) h (λ t n p b. keep t (table h n p) b refl)
+          n (p * 512 + j) (entry-at s u j)
           (λ f r z e m. may h f r m) (c .tables u h n p b j l))
     ];
     draining = λ u h n p a j l.
         let b = from u (draining-table h n p) a refl in
         rw (root-word u (draining-table h n p) b refl j)
-        (stale-keep (s .kind) (upd (s .kind) t (table g 3 0)) h (λ u n p b. keep u (draining-table h n p) b refl) (λ f b. keep f (draining-page h) b refl) n (p * 512 + j) (entry-at s u j) (c .draining u h n p b j l));
+        (stale-keep (s .kind) (upd (s .kind) t (table g 3 0)) h (λ u n p b. keep u (draining-table h n p) b refl)
+        (λ f b. keep f (draining-page h) b refl) n (p * 512 + j) (entry-at s u j) (c .draining u h n p b j l));
     roots = λ h l. elim (eq? h g) [
       | inl e ↦ rw (upd-at (s .root) g t h e, e) (upd-same (s .kind) t (table g 3 0))
-      | inr e ↦ rw (upd-other (s .root) g t h e) (keep (s .root h) (table h 3 0) (c .roots h (sym (upd-other (s .exists) g true h e) ∙ l)) refl)
+      | inr e ↦ rw (upd-other (s .root) g t h e) (keep (s .root h) (table h 3 0) (c .roots h (sym (upd-other (s .exists) g true h e) ∙ l))
+          refl)
     ];
     page-exists = λ f h a. there h (c .page-exists f h (from f (page h) a refl));
     strangers = λ f o h a l. c .strangers f o h (from f (page o) a refl) (elim (eq? h g) [
@@ -74,7 +78,8 @@ module _ (s : State) (c : Core s) (g t : ℕ) (none : s .exists g ≡ false) (hg
     guests-only = λ h l. elim (eq? h g) [ inl e ↦ rw e hg | inr e ↦ c .guests-only h (sym (upd-other (s .exists) g true h e) ∙ l) ];
     counts = λ f h. c .counts f h ∙ places-cong s (with-root s g t) f h refl (λ u j l m.
         elim (eq? u t) [
-          | inl e ↦ rw (upd-at (s .kind) t (table g 3 0) u e, hit-high g 2 0 (entry (s .first) (upd (s .word) t zeros u j)) f h) (rw (e, hf) (hit-plain free (entry-at s t j) f h refl))
+          | inl e ↦ rw (upd-at (s .kind) t (table g 3 0) u e, hit-high g 2 0 (entry (s .first) (upd (s .word) t zeros u j)) f h)
+              (rw (e, hf) (hit-plain free (entry-at s t j) f h refl))
           | inr e ↦ rw (upd-other (s .kind) t (table g 3 0) u e, upd-other (s .word) t zeros u e)
         ]);
   }
@@ -83,16 +88,29 @@ module _ (s : State) (c : Core s) (g t : ℕ) (none : s .exists g ≡ false) (hg
   unfolding with-root
   root-kept k q = record {
     table-ok = λ h n p x a.
-        let b = q .table-ok h n p x a in
-        (b .0, b .1, elim (b .2) [ inl d ↦ inl (keep (b .0) (table h n p) d refl) | inr d ↦ inr (keep (b .0) (draining-table h n p) d refl) ]);
+        let b = q .table-ok h n p x a in (
+          b .0,
+          b .1,
+          elim (b .2) [
+            | inl d ↦ inl (keep (b .0) (table h n p) d refl)
+            | inr d ↦ inr (keep (b .0) (draining-table h n p) d refl)
+          ],
+        );
     page-ok = λ h v x r a.
         let b = q .page-ok h v x r a in
         (b .0, b .1, elim (b .2) [ inl d ↦ inl (may h (b .0) r d) | inr d ↦ inr (keep (b .0) (draining-page h) d refl) ]);
     table-now = λ h n p x d a. let b = q .table-now h n p x d a in (b .0, b .1, keep (b .0) (table h n p) (b .2) refl);
     page-now = λ h v x r d a.
         let b = q .page-now h v x r d a in
-        let m = b .2 in
-        (b .0, b .1, (m .0, keep (m .0) (table h 0 (v / 512)) (m .1) refl, ap (entry (s .first)) (root-word (m .0) (table h 0 (v / 512)) (m .1) refl (v % 512)) ∙ m .2));
+        let m = b .2 in (
+          b .0,
+          b .1,
+          (
+            m .0,
+            keep (m .0) (table h 0 (v / 512)) (m .1) refl,
+            ap (entry (s .first)) (root-word (m .0) (table h 0 (v / 512)) (m .1) refl (v % 512)) ∙ m .2,
+          ),
+        );
   }
 
 pub create-good : (s : State) (c : Core s) (k : Caches) (q : Kept s k) (g : ℕ) (pick : ℕ → ℕ) → Choice s pick → Good k (create s g pick)

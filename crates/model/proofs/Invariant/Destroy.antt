@@ -30,10 +30,14 @@ module _ (g : ℕ) where
 
   pub was : (x : Frame-kind) → Was x
   unfolding drained
-  was monitor = stays refl (λ h n p e. absurd (clash {x = monitor} {y = table h n p} e refl)) (λ h e. absurd (clash {x = monitor} {y = page h} e refl))
-  was free = stays refl (λ h n p e. absurd (clash {x = free} {y = table h n p} e refl)) (λ h e. absurd (clash {x = free} {y = page h} e refl))
-  was (draining-table a b c) = stays refl (λ h n p e. absurd (clash {x = draining-table a b c} {y = table h n p} e refl)) (λ h e. absurd (clash {x = draining-table a b c} {y = page h} e refl))
-  was (draining-page a) = stays refl (λ h n p e. absurd (clash {x = draining-page a} {y = table h n p} e refl)) (λ h e. absurd (clash {x = draining-page a} {y = page h} e refl))
+  was monitor = stays refl (λ h n p e. absurd (clash {x = monitor} {y = table h n p} e refl))
+      (λ h e. absurd (clash {x = monitor} {y = page h} e refl))
+  was free = stays refl (λ h n p e. absurd (clash {x = free} {y = table h n p} e refl))
+      (λ h e. absurd (clash {x = free} {y = page h} e refl))
+  was (draining-table a b c) = stays refl (λ h n p e. absurd (clash {x = draining-table a b c} {y = table h n p} e refl))
+      (λ h e. absurd (clash {x = draining-table a b c} {y = page h} e refl))
+  was (draining-page a) = stays refl (λ h n p e. absurd (clash {x = draining-page a} {y = table h n p} e refl))
+      (λ h e. absurd (clash {x = draining-page a} {y = page h} e refl))
   was (table a b c) = elim (eq? a g) [
     | inl q ↦ was-table b c (rw q) (rw (eq-eqb a g q, q))
     | inr q ↦ stays (rw (ne-eqb a g q)) (λ h n p e z. q (cc)) (λ h e. absurd (clash {x = table a b c} {y = page h} e refl))
@@ -59,7 +63,8 @@ module _ (g : ℕ) where
       go (was-table m q a b) = absurd (clash {x = draining-table g m q} {y = page h} (sym b ∙ e) refl)
       go (was-page a b) = absurd (clash {x = draining-page g} {y = page h} (sym b ∙ e) refl)
 
-  from-draining : (x : Frame-kind) (h n p : ℕ) → drained g x ≡ draining-table h n p → (x ≡ draining-table h n p) ⊎ ((x ≡ table h n p) × (h ≡ g))
+  from-draining : (x : Frame-kind) (h n p : ℕ) → drained g x ≡ draining-table h n p →
+      (x ≡ draining-table h n p) ⊎ ((x ≡ table h n p) × (h ≡ g))
   from-draining x h n p e = go (was x)
     where
       go : Was x → (x ≡ draining-table h n p) ⊎ ((x ≡ table h n p) × (h ≡ g))
@@ -97,7 +102,8 @@ module _ (g : ℕ) where
     -- nothing is shared with g
     not-with : (f o : ℕ) → s .kind f ≡ page o → s .shared f g ≡ 0
     unfolding unshared
-    not-with f o a = eqb-true (s .shared f g) 0 (and-true (eqb (s .shared f g) 0) (not (is-page-of (s .kind f) g) || eqb (total (s .shared f)) 0)
+    not-with f o a = eqb-true (s .shared f g) 0 (and-true (eqb (s .shared f g) 0)
+        (not (is-page-of (s .kind f) g) || eqb (total (s .shared f)) 0)
         (or-right (is-page (s .kind f)) (eqb (s .shared f g) 0 && (not (is-page-of (s .kind f) g) || eqb (total (s .shared f)) 0))
         (all-true (s .size) (λ f. unshared s f g) alone f (low s c f (page o) a refl)) (rw a)) .0)
 
@@ -105,7 +111,8 @@ module _ (g : ℕ) where
     pub not-of : (f h : ℕ) → s .kind f ≡ page g → s .shared f h ≡ 0
     unfolding unshared
     not-of f h a = with-nobody s c f g a (eqb-true (total (s .shared f)) 0
-        (or-right (is-page-of (s .kind f) g) (eqb (total (s .shared f)) 0) (and-true (eqb (s .shared f g) 0) (not (is-page-of (s .kind f) g) || eqb (total (s .shared f)) 0)
+        (or-right (is-page-of (s .kind f) g) (eqb (total (s .shared f)) 0)
+        (and-true (eqb (s .shared f g) 0) (not (is-page-of (s .kind f) g) || eqb (total (s .shared f)) 0)
         (or-right (is-page (s .kind f)) (eqb (s .shared f g) 0 && (not (is-page-of (s .kind f) g) || eqb (total (s .shared f)) 0))
         (all-true (s .size) (λ f. unshared s f g) alone f (low s c f (page g) a refl)) (rw a)) .1) (rw a (eq-eqb g g refl)))) h
 
@@ -148,10 +155,12 @@ module _ (g : ℕ) where
           upd-other (s .exists) g false h (b .1) ∙ c .table-exists t h n p (b .0);
       tables = λ t h n p a i l.
           let b = from-table (s .kind t) h n p a in
-          fits-keep (s .kind) (λ f. drained g (s .kind f)) (May s) (May (without-guest s g)) h (λ t n p d. rw (d, ne-eqb h g (b .1))) n (p * 512 + i) (entry-at s t i)
+          fits-keep (s .kind) (λ f. drained g (s .kind f)) (May s) (May (without-guest s g)) h (λ t n p d. rw (d, ne-eqb h g (b .1))) n
+          (p * 512 + i) (entry-at s t i)
           (λ f r z e m. may-keep h f r (b .1) m) (c .tables t h n p (b .0) i l);
       draining = λ t h n p a i l. elim (from-draining (s .kind t) h n p a) [
-        | inl b ↦ stale-keep (s .kind) (λ f. drained g (s .kind f)) h (λ t n p d. rw d) (λ f d. rw d) n (p * 512 + i) (entry-at s t i) (c .draining t h n p b i l)
+        | inl b ↦ stale-keep (s .kind) (λ f. drained g (s .kind f)) h (λ t n p d. rw d) (λ f d. rw d) n (p * 512 + i) (entry-at s t i)
+            (c .draining t h n p b i l)
         | inr b ↦ rw (b .1) (fits-stale n (p * 512 + i) (entry-at s t i) (c .tables t g n p (rw (b .1) at (b .0)) i l))
       ];
       roots = λ h l. let b = alive h l in rw (c .roots h (b .1), ne-eqb h g (b .0));
@@ -164,8 +173,10 @@ module _ (g : ℕ) where
           ];
       guests-only = λ h l. c .guests-only h (alive h l .1);
       counts = λ f h. elim (eq? h g) [
-        | inl e ↦ rw (eq-eqb h g e, e) (sym (sum-none (s .size) (λ t. sum 512 (λ i. hit (drained g (s .kind t)) (entry-at s t i) f g)) (λ t. sum-none 512 (λ i. hit (drained g (s .kind t)) (entry-at s t i) f g) (λ i. hit-gone (s .kind t) (entry-at s t i) f))))
-        | inr e ↦ rw (ne-eqb h g e) (c .counts f h ∙ places-cong s (without-guest s g) f h refl (λ t i l m. hit-drained (s .kind t) (entry-at s t i) f h e))
+        | inl e ↦ rw (eq-eqb h g e, e) (sym (sum-none (s .size) (λ t. sum 512 (λ i. hit (drained g (s .kind t)) (entry-at s t i) f g))
+            (λ t. sum-none 512 (λ i. hit (drained g (s .kind t)) (entry-at s t i) f g) (λ i. hit-gone (s .kind t) (entry-at s t i) f))))
+        | inr e ↦ rw (ne-eqb h g e) (c .counts f h ∙ places-cong s (without-guest s g) f h refl
+            (λ t i l m. hit-drained (s .kind t) (entry-at s t i) f h e))
       ];
     }
 
@@ -203,4 +214,5 @@ module _ (g : ℕ) where
 
 pub destroy-good : (s : State) (c : Core s) (k : Caches) (q : Kept s k) (g : ℕ) → Good k (destroy s g)
 unfolding destroy
-destroy-good s c k q g = checked 5 λ e1. checked 13 λ e2. then-done (record { core = destroyed-core g s c e2; kept = destroyed-kept g s c e2 k q })
+destroy-good s c k q g = checked 5 λ e1. checked 13 λ e2. then-done
+    (record { core = destroyed-core g s c e2; kept = destroyed-kept g s c e2 k q })

@@ -41,7 +41,8 @@ module _ (s : State) (c : Core s) (s′ : State) (h : ℕ) (es : s′ .exists h 
   same-way : (v : ℕ) → v < page-count → leaf s′ h v ≡ leaf s h v
   unfolding leaf
   same-way v l = rw (es, rs) (elim (bool? (s .exists h)) [
-    | inl e ↦ rw e (descend-same s c s′ (λ t g n p a i. ws t g (suc n) p a i) h 3 (s .root h) v (root-serves (s .kind (s .root h)) h v (c .roots h e) l))
+    | inl e ↦ rw e (descend-same s c s′ (λ t g n p a i. ws t g (suc n) p a i) h 3 (s .root h) v
+        (root-serves (s .kind (s .root h)) h v (c .roots h e) l))
     | inr e ↦ rw e
   ])
 
@@ -58,11 +59,14 @@ Row s o s′ = (h v : ℕ) → v < page-count → translate s′ h v ≡ expecte
 
 module _ (s : State) (c : Core s) where
   -- frames that are no tables: give, take, share, unshare
-  becomes-same : (f : ℕ) (y : Frame-kind) (w sh : ℕ → ℕ → ℕ) → ((t g n p : ℕ) → s .kind t ≡ table g n p → (i : ℕ) → w t i ≡ s .word t i) → (h v : ℕ) → v < page-count → translate (becomes s f y w sh) h v ≡ translate s h v
-  becomes-same f y w sh hw h v l = same-translate s c (becomes s f y w sh) h (unfold becomes in refl) (unfold becomes in refl) (unfold becomes in λ t g n p a i. ap (entry (s .first)) (hw t g n p a i)) v l
+  becomes-same : (f : ℕ) (y : Frame-kind) (w sh : ℕ → ℕ → ℕ) → ((t g n p : ℕ) → s .kind t ≡ table g n p → (i : ℕ) → w t i ≡ s .word t i) →
+      (h v : ℕ) → v < page-count → translate (becomes s f y w sh) h v ≡ translate s h v
+  becomes-same f y w sh hw h v l = same-translate s c (becomes s f y w sh) h (unfold becomes in refl) (unfold becomes in refl)
+      (unfold becomes in λ t g n p a i. ap (entry (s .first)) (hw t g n p a i)) v l
 
   clean-same : (g h v : ℕ) → v < page-count → translate (clean s g) h v ≡ translate s h v
-  clean-same g h v l = same-translate s c (clean s g) h (unfold clean in refl) (unfold clean in refl) (unfold clean in λ t g n p a i. refl) v l
+  clean-same g h v l = same-translate s c (clean s g) h (unfold clean in refl) (unfold clean in refl)
+      (unfold clean in λ t g n p a i. refl) v l
 
   -- create: the new root is all zero, and the guest did not exist
   module _ (g t : ℕ) (none-yet : s .exists g ≡ false) (hg : Rattle.model.specs.State.is-guest g ≡ true) (hf : s .kind t ≡ free) where
@@ -73,18 +77,21 @@ module _ (s : State) (c : Core s) where
     root-same : (h v : ℕ) → v < page-count → translate (with-root s g t) h v ≡ translate s h v
     root-same h v l = elim (eq? h g) [
       | inl e ↦ rw e (new-root v ∙ sym (nobody-translates s g v none-yet))
-      | inr e ↦ same-translate s c (with-root s g t) h (unfold with-root in upd-other (s .exists) g true h e) (unfold with-root in upd-other (s .root) g t h e)
+      | inr e ↦ same-translate s c (with-root s g t) h (unfold with-root in upd-other (s .exists) g true h e)
+          (unfold with-root in upd-other (s .root) g t h e)
           (unfold with-root in λ u g′ n p a i. ap (entry (s .first)) (root-word s c g t none-yet hg hf u (table g′ n p) a refl i)) v l
     ]
 
   destroyed-row : (g h v : ℕ) → v < page-count → translate (without-guest s g) h v ≡ cond (eqb h g) none (translate s h v)
   destroyed-row g h v l = elim (eq? h g) [
     | inl e ↦ rw (eq-eqb h g e) (nobody-translates (without-guest s g) h v (unfold without-guest in upd-at (s .exists) g false h e))
-    | inr e ↦ rw (ne-eqb h g e) (same-translate s c (without-guest s g) h (unfold without-guest in upd-other (s .exists) g false h e) (unfold without-guest in refl) (unfold without-guest in λ t g n p a i. refl) v l)
+    | inr e ↦ rw (ne-eqb h g e) (same-translate s c (without-guest s g) h (unfold without-guest in upd-other (s .exists) g false h e)
+        (unfold without-guest in refl) (unfold without-guest in λ t g n p a i. refl) v l)
   ]
 
   -- at one address, o; elsewhere as before
-  at-one : (g v′ : ℕ) (o : Option Page) (s′ : State) → translate s′ g v′ ≡ o → ((h v : ℕ) → v < page-count → (h ≡ g → v ≡ v′ → ⊥) → translate s′ h v ≡ translate s h v) →
+  at-one : (g v′ : ℕ) (o : Option Page) (s′ : State) → translate s′ g v′ ≡ o →
+      ((h v : ℕ) → v < page-count → (h ≡ g → v ≡ v′ → ⊥) → translate s′ h v ≡ translate s h v) →
       (h v : ℕ) → v < page-count → translate s′ h v ≡ cond (eqb h g && eqb v v′) o (translate s h v)
   at-one g v′ o s′ here there h v l = elim (eq? h g) [
     | inr a ↦ rw (ne-eqb h g a) (there h v l (λ x y. a x))
@@ -103,19 +110,23 @@ module _ (s : State) (c : Core s) where
     s′ = without-page s t (v % 512) f g
 
     others : (t′ j : ℕ) → (t′ ≡ t → j ≡ v % 512 → ⊥) → entry-at s′ t′ j ≡ entry-at s t′ j
-    others t′ j ne = unfold without-page in set-other s c t g (v / 512) (v % 512) private-t (omega arith) 0 empty (entry-empty (s .first)) t′ j ne
+    others t′ j ne = unfold without-page in set-other s c t g (v / 512) (v % 512) private-t (omega arith) 0 empty (entry-empty (s .first))
+        t′ j ne
 
     here : entry-at s′ t (v % 512) ≡ empty
     here = unfold without-page in set-same s c t g (v / 512) (v % 512) private-t (omega arith) 0 empty (entry-empty (s .first))
 
     unmapped-row : (h v′ : ℕ) → v′ < page-count → translate s′ h v′ ≡ cond (eqb h g && eqb v′ v) none (translate s h v′)
     unmapped-row = at-one g v none s′
-        (translate-empty s′ g v t (same-leaf s c s′ t g (v / 512) (v % 512) private-t (omega arith) (λ h. unfold without-page in refl) (λ h. unfold without-page in refl) others g v lv ∙ hl) here)
-        (λ h v′ l ne. same-elsewhere s c s′ t g (v / 512) (v % 512) private-t (omega arith) (λ h. unfold without-page in refl) (λ h. unfold without-page in refl) others h v′ l
+        (translate-empty s′ g v t (same-leaf s c s′ t g (v / 512) (v % 512) private-t (omega arith) (λ h. unfold without-page in refl)
+        (λ h. unfold without-page in refl) others g v lv ∙ hl) here)
+        (λ h v′ l ne. same-elsewhere s c s′ t g (v / 512) (v % 512) private-t (omega arith) (λ h. unfold without-page in refl)
+        (λ h. unfold without-page in refl) others h v′ l
         (λ x (y : v′ ≡ v / 512 * 512 + v % 512). ne x (y ∙ div-add-mod' v 512)))
 
   -- map: the tables that are made change nothing
-  module _ (g v : ℕ) (x : Grown) (lg : s .exists g ≡ true) (lv : v < page-count) (z : Grew nothing-kept s 3 g (s .root g) v (x .state) (x .last)) where
+  module _ (g v : ℕ) (x : Grown) (lg : s .exists g ≡ true) (lv : v < page-count)
+      (z : Grew nothing-kept s 3 g (s .root g) v (x .state) (x .last)) where
     grown-same : (h v′ : ℕ) → v′ < page-count → translate (x .state) h v′ ≡ translate s h v′
     unfolding translate leaf
     grown-same h v′ l =
@@ -127,7 +138,8 @@ module _ (s : State) (c : Core s) where
         ])
 
     grown-leaf : leaf (x .state) g v ≡ some (x .last)
-    grown-leaf = leaf-there (x .state) (z .core) g v (ap (λ (b : ℕ → Bool). b g) (z .exists) ∙ lg) ∙ ap (λ (b : ℕ → ℕ). descend (x .state) 3 (b g) v) (z .root) ∙ z .way
+    grown-leaf = leaf-there (x .state) (z .core) g v (ap (λ (b : ℕ → Bool). b g) (z .exists) ∙ lg)
+        ∙ ap (λ (b : ℕ → ℕ). descend (x .state) 3 (b g) v) (z .root) ∙ z .way
 
     module _ (f r : ℕ) (m : May (x .state) g f r) (hr : r < 8) (was : entry-at (x .state) (x .last) (v % 512) ≡ empty) where
       abbrev s″ : State
@@ -137,15 +149,19 @@ module _ (s : State) (c : Core s) where
       reads = wrote (x .state) (z .core) (x .last) g (v / 512) (v % 512) (z .last) (omega arith) f r was m hr
 
       beside : (t′ j : ℕ) → (t′ ≡ x .last → j ≡ v % 512 → ⊥) → entry-at s″ t′ j ≡ entry-at (x .state) t′ j
-      beside t′ j ne = unfold with-page in set-other (x .state) (z .core) (x .last) g (v / 512) (v % 512) (z .last) (omega arith) (page-entry (x .state .first) f r) (to-page f r) reads t′ j ne
+      beside t′ j ne = unfold with-page in set-other (x .state) (z .core) (x .last) g (v / 512) (v % 512) (z .last) (omega arith)
+          (page-entry (x .state .first) f r) (to-page f r) reads t′ j ne
 
       set-here : entry-at s″ (x .last) (v % 512) ≡ to-page f r
-      set-here = unfold with-page in set-same (x .state) (z .core) (x .last) g (v / 512) (v % 512) (z .last) (omega arith) (page-entry (x .state .first) f r) (to-page f r) reads
+      set-here = unfold with-page in set-same (x .state) (z .core) (x .last) g (v / 512) (v % 512) (z .last) (omega arith)
+          (page-entry (x .state .first) f r) (to-page f r) reads
 
       mapped-row : (h v′ : ℕ) → v′ < page-count → translate s″ h v′ ≡ cond (eqb h g && eqb v′ v) (some (f, r)) (translate s h v′)
       mapped-row = at-one g v (some (f, r)) s″
-          (translate-at s″ g v (x .last) f r (same-leaf (x .state) (z .core) s″ (x .last) g (v / 512) (v % 512) (z .last) (omega arith) (λ h. unfold with-page in refl) (λ h. unfold with-page in refl) beside g v lv ∙ grown-leaf) set-here)
-          (λ h v′ l ne. same-elsewhere (x .state) (z .core) s″ (x .last) g (v / 512) (v % 512) (z .last) (omega arith) (λ h. unfold with-page in refl) (λ h. unfold with-page in refl) beside h v′ l
+          (translate-at s″ g v (x .last) f r (same-leaf (x .state) (z .core) s″ (x .last) g (v / 512) (v % 512) (z .last) (omega arith)
+          (λ h. unfold with-page in refl) (λ h. unfold with-page in refl) beside g v lv ∙ grown-leaf) set-here)
+          (λ h v′ l ne. same-elsewhere (x .state) (z .core) s″ (x .last) g (v / 512) (v % 512) (z .last) (omega arith)
+          (λ h. unfold with-page in refl) (λ h. unfold with-page in refl) beside h v′ l
           (λ a (y : v′ ≡ v / 512 * 512 + v % 512). ne a (y ∙ div-add-mod' v 512)) ∙ grown-same h v′ l)
 
 map-row : (s : State) (c : Core s) (f g a r : ℕ) (pick : ℕ → ℕ) → Choice s pick → Then (Row s (Map f g a r pick)) (map s f g a r pick)
@@ -173,16 +189,20 @@ unmap-row s c g a =
 pub rows : (s : State) (c : Core s) (o : Operation) → Chooses s o → Then (Row s o) (answer s o)
 unfolding answer create give take share unshare destroy invalidated expected
 rows s c (Create g pick) ch = checked 1 λ e1. checked 2 λ e2. checked 3 λ e3.
-    then-done (root-same s c g (pick 0) (not-true (s .exists g) (and-true (not (s .exists g)) (not (s .dirty g)) e2 .0)) e1 (first-free s c pick ch (leb-true 1 (free-frames s) e3)))
+    then-done (root-same s c g (pick 0) (not-true (s .exists g) (and-true (not (s .exists g)) (not (s .dirty g)) e2 .0)) e1
+    (first-free s c pick ch (leb-true 1 (free-frames s) e3)))
 rows s c (Give f g) ch = checked 5 λ e1. checked 4 λ e2. checked 6 λ e3.
     then-done (becomes-same s c f (page g) (upd (s .word) f zeros) (upd (s .shared) f zeros) (λ t h n p a i.
-    rw (upd-other (s .word) f zeros t (λ (e : t ≡ f). clash {x = free} {y = table h n p} (sym (free-is (s .kind f) e3) ∙ ap (s .kind) (sym e) ∙ a) refl))))
-rows s c (Take f g) ch = checked 5 λ e1. checked 4 λ e2. checked 9 λ e3. checked 13 λ e4. then-done (becomes-same s c f (cond (s .dirty g) (draining-page g) free) (s .word) (s .shared) (λ t h n p a i. refl))
+    rw (upd-other (s .word) f zeros t (λ (e : t ≡ f). clash {x = free} {y = table h n p}
+    (sym (free-is (s .kind f) e3) ∙ ap (s .kind) (sym e) ∙ a) refl))))
+rows s c (Take f g) ch = checked 5 λ e1. checked 4 λ e2. checked 9 λ e3. checked 13 λ e4. then-done
+    (becomes-same s c f (cond (s .dirty g) (draining-page g) free) (s .word) (s .shared) (λ t h n p a i. refl))
 rows s c (Map f g a r pick) ch = map-row s c f g a r pick ch
 rows s c (Unmap a g) ch = unmap-row s c g a
 rows s c (Share g f h w) ch = checked 5 λ e1. checked 12 λ e2. checked 4 λ e3. checked 9 λ e4. checked 13 λ e5. checked 14 λ e6.
     then-done (becomes-same s c f (page g) (s .word) (upd2 (s .shared) f h (cond (eqb w 0) 1 2)) (λ t h n p a i. refl))
-rows s c (Unshare g f h) ch = checked 5 λ e1. checked 4 λ e2. checked 9 λ e3. checked 13 λ e4. checked 14 λ e5. then-done (becomes-same s c f (page g) (s .word) (upd2 (s .shared) f h 0) (λ t h n p a i. refl))
+rows s c (Unshare g f h) ch = checked 5 λ e1. checked 4 λ e2. checked 9 λ e3. checked 13 λ e4. checked 14 λ e5. then-done
+    (becomes-same s c f (page g) (s .word) (upd2 (s .shared) f h 0) (λ t h n p a i. refl))
 rows s c (Destroy g) ch = checked 5 λ e1. checked 13 λ e2. then-done (destroyed-row s c g)
 rows s c (Invalidated g) ch = checked 1 λ e1. then-done (clean-same s c g)
 
@@ -195,4 +215,5 @@ unmapped-after s c g a s′ e = then-is (unmap s a g) s′ here-none e
         let o = some-is (translate s g (a / 4096)) e3 in
         let w = translate-from s g (a / 4096) (o .0) (o .1) (o .2) in
         rw (without-is s c g (a / 4096) (w .0) (o .0) (o .1) (w .1) (o .2))
-        (then-done (unmapped-row s c g (a / 4096) (w .0) (o .0) (o .1) (address-low a e2) (w .1) (w .2) g (a / 4096) (address-low a e2) ∙ rw (eq-eqb g g refl, eq-eqb (a / 4096) (a / 4096) refl)))
+        (then-done (unmapped-row s c g (a / 4096) (w .0) (o .0) (o .1) (address-low a e2) (w .1) (w .2) g (a / 4096) (address-low a e2)
+        ∙ rw (eq-eqb g g refl, eq-eqb (a / 4096) (a / 4096) refl)))

@@ -26,7 +26,8 @@ use Rattle.model.proofs.Invariant.Answer.{Good, then-done, checked}
 -- a guest's part of a sum over guests
 pub total-zero : (c : ℕ → ℕ) → total c ≡ 0 → (h : ℕ) → is-guest h ≡ true → c h ≡ 0
 unfolding total
-total-zero c z h e = go h (ltb-true 0 h (and-true (ltb 0 h) (leb h guests) e .0)) (leb-true h guests (and-true (ltb 0 h) (leb h guests) e .1))
+total-zero c z h e = go h (ltb-true 0 h (and-true (ltb 0 h) (leb h guests) e .0))
+    (leb-true h guests (and-true (ltb 0 h) (leb h guests) e .1))
   where
     go : (h : ℕ) → 0 < h → h ≤ guests → c h ≡ 0
     go zero l m = absurd (omega arith)
@@ -55,7 +56,8 @@ module _ (s : State) (c : Core s) where
 
 module _ (s : State) (c : Core s) (k : Caches) (q : Kept s k) where
   -- somebody's page stays so when a frame that is no page changes
-  may-else : (f : ℕ) (x y : Frame-kind) (w : ℕ → ℕ → ℕ) (sh : ℕ → ℕ) → s .kind f ≡ x → eqb (kind-number x) PAGE ≡ false → (g f′ r : ℕ) → May s g f′ r →
+  may-else : (f : ℕ) (x y : Frame-kind) (w : ℕ → ℕ → ℕ) (sh : ℕ → ℕ) → s .kind f ≡ x → eqb (kind-number x) PAGE ≡ false → (g f′ r : ℕ) →
+      May s g f′ r →
       May (becomes s f y w (upd (s .shared) f sh)) g f′ r
   unfolding becomes
   may-else f x y w sh hf n g f′ r (inl h) = inl (kind-keep (s .kind) f x y hf f′ (page g) h n)
@@ -63,7 +65,8 @@ module _ (s : State) (c : Core s) (k : Caches) (q : Kept s k) where
       inr (
         h .0,
         kind-keep (s .kind) f x y hf f′ (page (h .0)) (h .1) n,
-        rw (upd-other (s .shared) f sh f′ (λ (e : f′ ≡ f). clash {x = x} {y = page (h .0)} (sym hf ∙ ap (s .kind) (sym e) ∙ h .1) n)) (h .2),
+        rw (upd-other (s .shared) f sh f′ (λ (e : f′ ≡ f). clash {x = x} {y = page (h .0)} (sym hf ∙ ap (s .kind) (sym e) ∙ h .1) n))
+            (h .2),
       )
 
   pub give-good : (f g : ℕ) → Good k (give s f g)
@@ -106,14 +109,18 @@ module _ (s : State) (c : Core s) (k : Caches) (q : Kept s k) where
     may-other g′ f′ r ne (inl h) = inl (upd-other (s .kind) f y f′ ne ∙ h)
     may-other g′ f′ r ne (inr h) = inr (h .0, upd-other (s .kind) f y f′ ne ∙ h .1, h .2)
 
-    take-core : eqb (kind-number y) TABLE ≡ false → eqb (kind-number y) DRAINING-TABLE ≡ false → eqb (kind-number y) PAGE ≡ false → Core (becomes s f y (s .word) (s .shared))
+    take-core : eqb (kind-number y) TABLE ≡ false → eqb (kind-number y) DRAINING-TABLE ≡ false → eqb (kind-number y) PAGE ≡ false →
+        Core (becomes s f y (s .word) (s .shared))
     take-core y2 y3 y4 = becomes-core s c f (page g) y (s .word) (s .shared) hf (refl, refl, refl, refl) y2 y3 (λ t ne i. refl)
-        (λ g′ t p i f′ r a b d m. may-other g′ f′ r (λ (e : f′ ≡ f). unmapped s c f zm g′ t p i r a b (d ∙ ap (λ (z : ℕ). to-page z r) e)) m)
+        (λ g′ t p i f′ r a b d m. may-other g′ f′ r (λ (e : f′ ≡ f). unmapped s c f zm g′ t p i r a b (d ∙ ap (λ (z : ℕ). to-page z r) e))
+        m)
         (λ g′ e. absurd (clash {x = y} {y = page g′} e y4))
         (λ f′ o h a l. c .strangers f′ o h (kind-from (s .kind) f y f′ (page o) a y4) l)
 
-    take-kept : eqb (kind-number y) TABLE ≡ false → eqb (kind-number y) DRAINING-TABLE ≡ false → (s .dirty g ≡ true → y ≡ draining-page g) → Kept (becomes s f y (s .word) (s .shared)) k
-    take-kept y2 y3 yd = becomes-kept s c f (page g) y (s .word) (s .shared) hf (refl, refl, refl, refl) y2 y3 (λ t ne i. refl) k q (λ g′ v f′ r a b.
+    take-kept : eqb (kind-number y) TABLE ≡ false → eqb (kind-number y) DRAINING-TABLE ≡ false →
+        (s .dirty g ≡ true → y ≡ draining-page g) → Kept (becomes s f y (s .word) (s .shared)) k
+    take-kept y2 y3 yd = becomes-kept s c f (page g) y (s .word) (s .shared) hf (refl, refl, refl, refl) y2 y3 (λ t ne i. refl) k q
+        (λ g′ v f′ r a b.
         elim (eq? f′ f) [
           | inr e ↦ elim b [ inl m ↦ inl (may-other g′ f′ r e m) | inr m ↦ inr (upd-other (s .kind) f y f′ e ∙ m) ]
           | inl e ↦ inr (here g′ v f′ r a e b)
@@ -130,7 +137,8 @@ module _ (s : State) (c : Core s) (k : Caches) (q : Kept s k) where
               absurd (unmapped s c f zm g′ (m .0) (v / 512) (v % 512) r (m .1) (omega arith) (m .2 ∙ ap (λ (z : ℕ). to-page z r) same))
         ]
 
-        here : (g′ v f′ r : ℕ) → k .page-kept g′ v (s .first + f′) r → f′ ≡ f → May s g′ f′ r ⊎ (s .kind f′ ≡ draining-page g′) → upd (s .kind) f y f′ ≡ draining-page g′
+        here : (g′ v f′ r : ℕ) → k .page-kept g′ v (s .first + f′) r → f′ ≡ f → May s g′ f′ r ⊎ (s .kind f′ ≡ draining-page g′) →
+            upd (s .kind) f y f′ ≡ draining-page g′
         here g′ v f′ r a e (inl (inl h)) = mine g′ v f′ r a e (cc)
         here g′ v f′ r a e (inl (inr h)) = absurd (shares-0 (s .shared f g′) r (with-nobody s c f g hf zs g′) (rw e at (h .2)))
         here g′ v f′ r a e (inr h) = cc
@@ -143,6 +151,13 @@ module _ (s : State) (c : Core s) (k : Caches) (q : Kept s k) where
       let z = and-true (eqb (total (s .count f)) 0) (eqb (total (s .shared f)) 0) e4 in
       go hf (eqb-true _ _ (z .0)) (eqb-true _ _ (z .1)) (s .dirty g) refl
     where
-      go : s .kind f ≡ page g → total (s .count f) ≡ 0 → total (s .shared f) ≡ 0 → (b : Bool) → s .dirty g ≡ b → Good k (done (becomes s f (cond b (draining-page g) free) (s .word) (s .shared)))
-      go hf z1 z2 true d = then-done (record { core = take-core f g hf z1 z2 (draining-page g) refl refl refl; kept = take-kept f g hf z1 z2 (draining-page g) refl refl (λ e. refl) })
-      go hf z1 z2 false d = then-done (record { core = take-core f g hf z1 z2 free refl refl refl; kept = take-kept f g hf z1 z2 free refl refl (λ e. cc) })
+      go : s .kind f ≡ page g → total (s .count f) ≡ 0 → total (s .shared f) ≡ 0 → (b : Bool) → s .dirty g ≡ b →
+          Good k (done (becomes s f (cond b (draining-page g) free) (s .word) (s .shared)))
+      go hf z1 z2 true d = then-done (record {
+        core = take-core f g hf z1 z2 (draining-page g) refl refl refl;
+        kept = take-kept f g hf z1 z2 (draining-page g) refl refl (λ e. refl);
+      })
+      go hf z1 z2 false d = then-done (record {
+        core = take-core f g hf z1 z2 free refl refl refl;
+        kept = take-kept f g hf z1 z2 free refl refl (λ e. cc);
+      })

@@ -54,15 +54,19 @@ pub record Links (h : ℕ) (s : State) (g t v : ℕ) (pick : ℕ → ℕ) : Type
 -- Induction over the tables that map finds and makes: the last, one that is there, one that is made.
 module _ {ℓ} (P : (h : ℕ) (s : State) (g t v : ℕ) (pick : ℕ → ℕ) → Type ℓ)
     (last : (s : State) → Core s → (g t v : ℕ) (pick : ℕ → ℕ) → s .kind t ≡ table g 0 (v / 512) → P 0 s g t v pick)
-    (there : (h : ℕ) (s : State) → Core s → (g t v : ℕ) (pick : ℕ → ℕ) → s .kind t ≡ table g (suc h) (upper (suc (suc h)) v) → (t′ : ℕ) → entry-at s t (index (suc h) v) ≡ to-table t′ → P h s g t′ v pick → P (suc h) s g t v pick)
-    (made : (h : ℕ) (s : State) (g t v : ℕ) (pick : ℕ → ℕ) → Links h s g t v pick → P h (linked h s g t v pick) g (pick 0) v (λ j. pick (suc j)) → P (suc h) s g t v pick) where
-  pub grow-by : (h : ℕ) (s : State) → Core s → (g t v : ℕ) (pick : ℕ → ℕ) → Choice s pick → missing-from s h t v ≤ free-frames s → s .kind t ≡ table g h (upper (suc h) v) → P h s g t v pick
+    (there : (h : ℕ) (s : State) → Core s → (g t v : ℕ) (pick : ℕ → ℕ) → s .kind t ≡ table g (suc h) (upper (suc (suc h)) v) → (t′ : ℕ) →
+    entry-at s t (index (suc h) v) ≡ to-table t′ → P h s g t′ v pick → P (suc h) s g t v pick)
+    (made : (h : ℕ) (s : State) (g t v : ℕ) (pick : ℕ → ℕ) → Links h s g t v pick →
+    P h (linked h s g t v pick) g (pick 0) v (λ j. pick (suc j)) → P (suc h) s g t v pick) where
+  pub grow-by : (h : ℕ) (s : State) → Core s → (g t v : ℕ) (pick : ℕ → ℕ) → Choice s pick → missing-from s h t v ≤ free-frames s →
+      s .kind t ≡ table g h (upper (suc h) v) → P h s g t v pick
   unfolding upper
   grow-by zero s c g t v pick ch m a = last s c g t v pick a
   grow-by (suc h) s c g t v pick ch m a = at (grow-by h) (entry-at s t i) refl (unfold missing-from in m)
     where
       IH : Type ℓ
-      IH = (s : State) → Core s → (g t v : ℕ) (pick : ℕ → ℕ) → Choice s pick → missing-from s h t v ≤ free-frames s → s .kind t ≡ table g h (upper (suc h) v) → P h s g t v pick
+      IH = (s : State) → Core s → (g t v : ℕ) (pick : ℕ → ℕ) → Choice s pick → missing-from s h t v ≤ free-frames s →
+          s .kind t ≡ table g h (upper (suc h) v) → P h s g t v pick
 
       i : ℕ
       i = index (suc h) v
@@ -73,10 +77,12 @@ module _ {ℓ} (P : (h : ℕ) (s : State) (g t v : ℕ) (pick : ℕ → ℕ) →
           let f = first-free s c pick ch some in
           let z = div-add-mod' (upper (suc h) v) 512 in
           let c′ = linked-core s c t i (pick 0) g h (upper (suc (suc h)) v) (upper (suc h) v) a (omega arith) w z f in
-          let n = zero-missing (linked h s g t v pick) (pick 0) (linked-new s c t i (pick 0) g h (upper (suc (suc h)) v) (upper (suc h) v) a (omega arith) w z f (pick 0) refl) h v in
+          let n = zero-missing (linked h s g t v pick) (pick 0)
+          (linked-new s c t i (pick 0) g h (upper (suc (suc h)) v) (upper (suc h) v) a (omega arith) w z f (pick 0) refl) h v in
           let less = fewer s c pick ch some t i g h (upper (suc h) v) in
           made h s g t v pick (record { core = c; chosen = ch; enough = l; above = a; was = w; range = z; spare = f; all-missing = n })
-          (ih (linked h s g t v pick) c′ g (pick 0) v (λ j. pick (suc j)) (rest-chosen s c pick ch some t i g h (upper (suc h) v)) (rw n (omega arith)) (unfold with-table in upd-same (s .kind) (pick 0) (table g h (upper (suc h) v))))
+          (ih (linked h s g t v pick) c′ g (pick 0) v (λ j. pick (suc j)) (rest-chosen s c pick ch some t i g h (upper (suc h) v))
+          (rw n (omega arith)) (unfold with-table in upd-same (s .kind) (pick 0) (table g h (upper (suc h) v))))
 
       at : IH → (e : Entry) → entry-at s t i ≡ e → into e (suc h) (λ t′. missing-from s h t′ v) ≤ free-frames s → P (suc h) s g t v pick
       at ih empty e m = new ih e m
@@ -100,7 +106,8 @@ pub record Grew (k : Caches) (s : State) (h g t v : ℕ) (s′ : State) (u : ℕ
   -- only free frames become something, and only they and tables change
   pub kinds : (f : ℕ) (x : Frame-kind) → s .kind f ≡ x → eqb FREE (kind-number x) ≡ false → s′ .kind f ≡ x
   pub from : (f : ℕ) (x : Frame-kind) → s′ .kind f ≡ x → (s .kind f ≡ x) ⊎ ((s .kind f ≡ free) × (eqb TABLE (kind-number x) ≡ true))
-  pub words : (f : ℕ) (x : Frame-kind) → s .kind f ≡ x → eqb FREE (kind-number x) ≡ false → eqb TABLE (kind-number x) ≡ false → (i : ℕ) → s′ .word f i ≡ s .word f i
+  pub words : (f : ℕ) (x : Frame-kind) → s .kind f ≡ x → eqb FREE (kind-number x) ≡ false → eqb TABLE (kind-number x) ≡ false → (i : ℕ) →
+      s′ .word f i ≡ s .word f i
   pub above : (x g′ n p j : ℕ) → h < n → s .kind x ≡ table g′ n p → s′ .word x j ≡ s .word x j
   -- the way to v ends at u, and everything comes to what it came to
   pub way : descend s′ h t v ≡ some u
@@ -116,7 +123,11 @@ module _ (s : State) (c : Core s) (t i t′ g h p q : ℕ) (ht : s .kind t ≡ t
   first1 = unfold with-table in refl
 
   old : (u g′ n p′ : ℕ) → s .kind u ≡ table g′ n p′ → (j : ℕ) → (u ≡ t → j ≡ i → ⊥) → entry-at s1 u j ≡ entry-at s u j
-  old u g′ n p′ a j d = rw (first1, linked-old s c t i t′ g h p q ht hi was hq hf u (λ (e : u ≡ t′). clash {x = free} {y = table g′ n p′} (sym hf ∙ ap (s .kind) (sym e) ∙ a) refl) j d)
+  old u g′ n p′ a j d = rw (
+    first1,
+    linked-old s c t i t′ g h p q ht hi was hq hf u
+        (λ (e : u ≡ t′). clash {x = free} {y = table g′ n p′} (sym hf ∙ ap (s .kind) (sym e) ∙ a) refl) j d,
+  )
 
   pub linked-moves : (g′ n u v : ℕ) → s .kind u ≡ table g′ n (upper (suc n) v) → comes-to s1 n u v ≡ comes-to s n u v
   unfolding descend
@@ -125,22 +136,26 @@ module _ (s : State) (c : Core s) (t i t′ g h p q : ℕ) (ht : s .kind t ≡ t
     | inr e ↦ same (linked-moves g′ n) (old u g′ (suc n) (upper (suc (suc n)) v) a j (λ x y. e x))
     | inl e ↦ elim (eq? j i) [
       | inr d ↦ same (linked-moves g′ n) (old u g′ (suc n) (upper (suc (suc n)) v) a j (λ x y. d y))
-      | inl d ↦ rw (e, d, linked-here s c t i t′ g h p q ht hi was hq hf, was) (zero-table s1 t′ (linked-new s c t i t′ g h p q ht hi was hq hf t′ refl) n v)
+      | inl d ↦ rw (e, d, linked-here s c t i t′ g h p q ht hi was hq hf, was)
+          (zero-table s1 t′ (linked-new s c t i t′ g h p q ht hi was hq hf t′ refl) n v)
     ]
   ]
     where
       j : ℕ
       j = index (suc n) v
 
-      go : ((u v : ℕ) → s .kind u ≡ table g′ n (upper (suc n) v) → comes-to s1 n u v ≡ comes-to s n u v) → (x : Entry) → entry-at s u j ≡ x →
+      go : ((u v : ℕ) → s .kind u ≡ table g′ n (upper (suc n) v) → comes-to s1 n u v ≡ comes-to s n u v) → (x : Entry) →
+          entry-at s u j ≡ x →
           page-at s1 v (into x none (λ x. descend s1 n x v)) ≡ page-at s v (into x none (λ x. descend s n x v))
       go ih empty e = refl
       go ih (to-table x) e = ih x v (step-kind s c g′ n u v x a e)
       go ih (to-page f r) e = refl
       go ih (other x) e = refl
 
-      same : ((u v : ℕ) → s .kind u ≡ table g′ n (upper (suc n) v) → comes-to s1 n u v ≡ comes-to s n u v) → entry-at s1 u j ≡ entry-at s u j →
-          page-at s1 v (into (entry-at s1 u j) none (λ x. descend s1 n x v)) ≡ page-at s v (into (entry-at s u j) none (λ x. descend s n x v))
+      same : ((u v : ℕ) → s .kind u ≡ table g′ n (upper (suc n) v) → comes-to s1 n u v ≡ comes-to s n u v) →
+          entry-at s1 u j ≡ entry-at s u j →
+          page-at s1 v (into (entry-at s1 u j) none (λ x. descend s1 n x v)) ≡
+          page-at s v (into (entry-at s u j) none (λ x. descend s n x v))
       same ih e = rw e (go ih (entry-at s u j) refl)
 
   kind-new : s1 .kind t′ ≡ table g h q
@@ -150,7 +165,8 @@ module _ (s : State) (c : Core s) (t i t′ g h p q : ℕ) (ht : s .kind t ≡ t
   kind-old f e = unfold with-table in upd-other (s .kind) t′ (table g h q) f e
 
   -- and what is made below it
-  pub grew-below : (k : Caches) (v : ℕ) → index (suc h) v ≡ i → (s′ : State) (u : ℕ) → Grew k s1 h g t′ v s′ u → Grew k s (suc h) g t v s′ u
+  pub grew-below : (k : Caches) (v : ℕ) → index (suc h) v ≡ i → (s′ : State) (u : ℕ) → Grew k s1 h g t′ v s′ u →
+      Grew k s (suc h) g t v s′ u
   unfolding descend
   grew-below k v hv s′ u e = record {
     core = e .core;
@@ -165,13 +181,20 @@ module _ (s : State) (c : Core s) (t i t′ g h p q : ℕ) (ht : s .kind t ≡ t
     count = e .count ∙ (unfold with-table in refl);
     dirty = e .dirty ∙ (unfold with-table in refl);
     kinds = λ f x a z. e .kinds f x (kept1 f x a z) z;
-    from = λ f x a. elim (e .from f x a) [ inl b ↦ was-before f x b | inr b ↦ elim (was-before f free (b .0)) [ inl d ↦ inr (d, b .1) | inr d ↦ inr (d .0, b .1) ] ];
+    from = λ f x a. elim (e .from f x a) [
+      | inl b ↦ was-before f x b
+      | inr b ↦ elim (was-before f free (b .0))
+          [ inl d ↦ inr (d, b .1) | inr d ↦ inr (d .0, b .1) ]
+    ];
     words = λ f x a z y j. e .words f x (kept1 f x a z) z y j ∙ linked-old s c t i t′ g h p q ht hi was hq hf f (notnew f x a z) j
         (λ (w : f ≡ t) o. clash {x = table g (suc h) p} {y = x} (sym ht ∙ ap (s .kind) (sym w) ∙ a) y);
     above = λ x g′ n p′ j l a. e .above x g′ n p′ j (omega arith) (kept1 x (table g′ n p′) a refl)
-        ∙ linked-old s c t i t′ g h p q ht hi was hq hf x (notnew x (table g′ n p′) a refl) j (λ (w : x ≡ t) o. let z : n ≡ suc h = cc in omega arith);
+        ∙ linked-old s c t i t′ g h p q ht hi was hq hf x (notnew x (table g′ n p′) a refl) j
+        (λ (w : x ≡ t) o. let z : n ≡ suc h = cc in omega arith);
     way =
-        let x : entry-at s′ t i ≡ to-table t′ = ap (λ (z : ℕ). entry z (s′ .word t i)) (e .first) ∙ ap (entry (s1 .first)) (e .above t g (suc h) p i (omega arith) (kept1 t (table g (suc h) p) ht refl)) ∙ linked-here s c t i t′ g h p q ht hi was hq hf in
+        let x : entry-at s′ t i ≡ to-table t′ = ap (λ (z : ℕ). entry z (s′ .word t i)) (e .first)
+        ∙ ap (entry (s1 .first)) (e .above t g (suc h) p i (omega arith) (kept1 t (table g (suc h) p) ht refl))
+        ∙ linked-here s c t i t′ g h p q ht hi was hq hf in
         rw (hv, x) (e .way);
     moves = λ g′ n x v′ a. e .moves g′ n x v′ (kept1 x (table g′ n (upper (suc n) v′)) a refl) ∙ linked-moves g′ n x v′ a;
   }
@@ -181,7 +204,11 @@ module _ (s : State) (c : Core s) (t i t′ g h p q : ℕ) (ht : s .kind t ≡ t
 
       was-before : (f : ℕ) (x : Frame-kind) → s1 .kind f ≡ x → (s .kind f ≡ x) ⊎ ((s .kind f ≡ free) × (eqb TABLE (kind-number x) ≡ true))
       was-before f x a = elim (eq? f t′) [
-        | inl e ↦ inr (ap (s .kind) e ∙ hf, let b : table g h q ≡ x = sym kind-new ∙ ap (s1 .kind) (sym e) ∙ a in ap (λ (y : Frame-kind). eqb TABLE (kind-number y)) (sym b))
+        | inl e ↦ inr (
+          ap (s .kind) e ∙ hf,
+          let b : table g h q ≡ x = sym kind-new ∙ ap (s1 .kind) (sym e)
+              ∙ a in ap (λ (y : Frame-kind). eqb TABLE (kind-number y)) (sym b),
+        )
         | inr e ↦ inl (sym (kind-old f e) ∙ a)
       ]
 
@@ -215,7 +242,8 @@ module _ (k : Caches) where
   }
 
   -- a table that is there changes nothing
-  lifted : (h : ℕ) (s : State) (g t v : ℕ) → s .kind t ≡ table g (suc h) (upper (suc (suc h)) v) → (t′ : ℕ) → entry-at s t (index (suc h) v) ≡ to-table t′ → (s′ : State) (u : ℕ) → Grew k s h g t′ v s′ u → Grew k s (suc h) g t v s′ u
+  lifted : (h : ℕ) (s : State) (g t v : ℕ) → s .kind t ≡ table g (suc h) (upper (suc (suc h)) v) → (t′ : ℕ) →
+      entry-at s t (index (suc h) v) ≡ to-table t′ → (s′ : State) (u : ℕ) → Grew k s h g t′ v s′ u → Grew k s (suc h) g t v s′ u
   unfolding descend
   lifted h s g t v a t′ w s′ u e = record {
     core = e .core;
@@ -235,20 +263,26 @@ module _ (k : Caches) where
     above = λ x g′ n p j l a. e .above x g′ n p j (omega arith) a;
     way =
         let x : entry-at s′ t (index (suc h) v) ≡ to-table t′ =
-        ap (λ (z : ℕ). entry z (s′ .word t (index (suc h) v))) (e .first) ∙ ap (entry (s .first)) (e .above t g (suc h) (upper (suc (suc h)) v) (index (suc h) v) (omega arith) a) ∙ w in
+        ap (λ (z : ℕ). entry z (s′ .word t (index (suc h) v))) (e .first)
+        ∙ ap (entry (s .first)) (e .above t g (suc h) (upper (suc (suc h)) v) (index (suc h) v) (omega arith) a) ∙ w in
         rw x (e .way);
     moves = e .moves;
   }
 
-  grew-there : (h : ℕ) (s : State) → Core s → (g t v : ℕ) (pick : ℕ → ℕ) → s .kind t ≡ table g (suc h) (upper (suc (suc h)) v) → (t′ : ℕ) → entry-at s t (index (suc h) v) ≡ to-table t′ → Grows h s g t′ v pick → Grows (suc h) s g t v pick
+  grew-there : (h : ℕ) (s : State) → Core s → (g t v : ℕ) (pick : ℕ → ℕ) → s .kind t ≡ table g (suc h) (upper (suc (suc h)) v) →
+      (t′ : ℕ) → entry-at s t (index (suc h) v) ≡ to-table t′ → Grows h s g t′ v pick → Grows (suc h) s g t v pick
   unfolding grow
   grew-there h s c g t v pick a t′ w e q = rw w (lifted h s g t v a t′ w (grow h s g t′ v pick .state) (grow h s g t′ v pick .last) (e q))
 
-  grew-made : (h : ℕ) (s : State) (g t v : ℕ) (pick : ℕ → ℕ) → Links h s g t v pick → Grows h (linked h s g t v pick) g (pick 0) v (λ j. pick (suc j)) → Grows (suc h) s g t v pick
+  grew-made : (h : ℕ) (s : State) (g t v : ℕ) (pick : ℕ → ℕ) → Links h s g t v pick →
+      Grows h (linked h s g t v pick) g (pick 0) v (λ j. pick (suc j)) → Grows (suc h) s g t v pick
   unfolding grow
   grew-made h s g t v pick x e q = let i = index (suc h) v in let new = grow h (linked h s g t v pick) g (pick 0) v (λ j. pick (suc j)) in
-      rw (x .was) (grew-below s (x .core) t i (pick 0) g h (upper (suc (suc h)) v) (upper (suc h) v) (x .above) (omega arith) (x .was) (x .range) (x .spare) k v refl (new .state) (new .last)
-      (e (linked-kept s (x .core) t i (pick 0) g h (upper (suc (suc h)) v) (upper (suc h) v) (x .above) (omega arith) (x .was) (x .range) (x .spare) k q)))
+      rw (x .was) (grew-below s (x .core) t i (pick 0) g h (upper (suc (suc h)) v) (upper (suc h) v) (x .above) (omega arith) (x .was)
+      (x .range) (x .spare) k v refl (new .state) (new .last)
+      (e (linked-kept s (x .core) t i (pick 0) g h (upper (suc (suc h)) v) (upper (suc h) v) (x .above) (omega arith) (x .was) (x .range)
+      (x .spare) k q)))
 
-  pub grow-grew : (h : ℕ) (s : State) → Core s → (g t v : ℕ) (pick : ℕ → ℕ) → Choice s pick → missing-from s h t v ≤ free-frames s → s .kind t ≡ table g h (upper (suc h) v) → Grows h s g t v pick
+  pub grow-grew : (h : ℕ) (s : State) → Core s → (g t v : ℕ) (pick : ℕ → ℕ) → Choice s pick → missing-from s h t v ≤ free-frames s →
+      s .kind t ≡ table g h (upper (suc h) v) → Grows h s g t v pick
   grow-grew = grow-by Grows grew-last grew-there grew-made

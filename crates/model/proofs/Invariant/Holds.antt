@@ -57,10 +57,15 @@ reached s k c q g w a x = let b = page-found s k c q g (x .2) in (b .0, x .1, b 
 
 pub step-holds : {m m′ : Machine} → Step m m′ → Holds m → Holds m′
 unfolding call write
-step-holds (calls {m} o ch) h = settled m h (keeps (m .caches) o) (answer (m .state) o) (answer-good (m .state) (h .core) (m .caches) (h .kept) o ch)
-step-holds (stores {m} g f o x e l n b a) h = record { core = core; kept = grown-kept (stored (m .state) f o x) (m .caches) core (stored-kept (m .state) g f r o x may (m .caches) (h .kept)) }
+step-holds (calls {m} o ch) h = settled m h (keeps (m .caches) o) (answer (m .state) o)
+    (answer-good (m .state) (h .core) (m .caches) (h .kept) o ch)
+step-holds (stores {m} g f o x e l n b a) h = record {
+  core = core;
+  kept = grown-kept (stored (m .state) f o x) (m .caches) core (stored-kept (m .state) g f r o x may (m .caches) (h .kept));
+}
   where
-    to : (f r : ℕ) × (((m .state .first + f) * 4096 + o) / 4096 ≡ m .state .first + f) × (grants r writing ≡ true) × (May (m .state) g f r ⊎ (m .state .kind f ≡ draining-page g))
+    to : (f r : ℕ) × (((m .state .first + f) * 4096 + o) / 4096 ≡ m .state .first + f) × (grants r writing ≡ true) ×
+        (May (m .state) g f r ⊎ (m .state .kind f ≡ draining-page g))
     to = let z = reached (m .state) (m .caches) (h .core) (h .kept) g writing ((m .state .first + f) * 4096 + o) a in
         let z2 = z .2 in
         let f= : z .0 ≡ f = omega arith in
@@ -84,7 +89,8 @@ abbrev pub Answers-keep : (State → Type 0) → Type 0
 Answers-keep P = (s : State) → Core s → P s → (o : Operation) → Chooses s o → Then P (answer s o)
 
 abbrev pub Stores-keep : (State → Type 0) → Type 1
-Stores-keep P = (m : Machine) → Holds m → P (m .state) → (g f o x : ℕ) → o < 4096 → x < 256 → Reach (m .state) (m .caches) g writing ((m .state .first + f) * 4096 + o) → P (stored (m .state) f o x)
+Stores-keep P = (m : Machine) → Holds m → P (m .state) → (g f o x : ℕ) → o < 4096 → x < 256 →
+    Reach (m .state) (m .caches) g writing ((m .state .first + f) * 4096 + o) → P (stored (m .state) f o x)
 
 module _ (P : State → Type 0) (answered : Answers-keep P) (written : Stores-keep P) where
   step-keeps : {m m′ : Machine} → Step m m′ → Holds m → P (m .state) → P (m′ .state)
@@ -138,11 +144,17 @@ module _ (n k : ℕ) where
     page-exists = λ f g e. absurd (neither f (page g) e refl refl);
     strangers = λ f o h a l. refl;
     guests-only = λ g l. absurd (true≢false (sym l));
-    counts = λ f h. sym (sum-none n (λ t. sum 512 (λ i. hit (at-first n k t) (entry (b / 4096) (w t i)) f h)) (λ t. sum-none 512 (λ i. hit (at-first n k t) (entry (b / 4096) (w t i)) f h) (λ i. no-hit t (entry (b / 4096) (w t i)) f h)));
+    counts = λ f h. sym (sum-none n (λ t. sum 512 (λ i. hit (at-first n k t) (entry (b / 4096) (w t i)) f h))
+        (λ t. sum-none 512 (λ i. hit (at-first n k t) (entry (b / 4096) (w t i)) f h) (λ i. no-hit t (entry (b / 4096) (w t i)) f h)));
   }
 
 pub nothing-ok : (s : State) → Kept s nothing-kept
-nothing-ok s = record { table-ok = λ g h p x a. absurd a; page-ok = λ g v x r a. absurd a; table-now = λ g h p x d a. absurd a; page-now = λ g v x r d a. absurd a }
+nothing-ok s = record {
+  table-ok = λ g h p x a. absurd a;
+  page-ok = λ g v x r a. absurd a;
+  table-now = λ g h p x d a. absurd a;
+  page-now = λ g v x r d a. absurd a;
+}
 
 fits-room : (fits : Bool) (b n k : ℕ) → (fits && ram-fits b n && ltb k n) ≡ true → b / frame-bytes + n ≤ page-count
 fits-room fits b n k e =
@@ -159,7 +171,10 @@ set-up-core fits b n k w s e = go (fits && ram-fits b n && ltb k n) refl e
     go false q e = let z : _≡_ {A = ℕ} 0 1 = cc in absurd (omega arith)
 
 pub set-up-holds : {m : Machine} → SetUp m → Holds m
-set-up-holds {m} x = record { core = set-up-core true (x .b) (x .n) (x .k) (x .word) (m .state) (x .accepted); kept = rw (x .fresh) (nothing-ok (m .state)) }
+set-up-holds {m} x = record {
+  core = set-up-core true (x .b) (x .n) (x .k) (x .word) (m .state) (x .accepted);
+  kept = rw (x .fresh) (nothing-ok (m .state));
+}
 
 -- after any run from set-up
 pub holds : {m z : Machine} → SetUp m → Run m z → Holds z

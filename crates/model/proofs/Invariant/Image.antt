@@ -30,7 +30,8 @@ module _ {s : State} {b : ℕ} {m : List ℕ} (x : Image s b m) (h : (i : ℕ) �
   unfolding byte
   byte-there f o l k =
       let at : 4096 * f + 8 * (o / 8) + o % 8 ≡ 4096 * f + o = omega arith in
-      byte-is (o % 8) (s .word f (o / 8)) ∙ ap (λ (w : ℕ). w / 2 ^ (8 * (o % 8)) % 256) (x .words f (o / 8) l (omega arith) ∙ word-bytes m (4096 * f + 8 * (o / 8)))
+      byte-is (o % 8) (s .word f (o / 8)) ∙ ap (λ (w : ℕ). w / 2 ^ (8 * (o % 8)) % 256)
+      (x .words f (o / 8) l (omega arith) ∙ word-bytes m (4096 * f + 8 * (o / 8)))
       ∙ bytes-there m h 7 (4096 * f + 8 * (o / 8)) (o % 8) (omega arith) ∙ ap (λ (i : ℕ). getD m i 0) at
 
 -- set-up on any bytes
@@ -85,7 +86,9 @@ module _ (s : State) where
   image-of h = record {
     base = refl;
     long = numbers-length (λ j. byte s (j / 4096) (j % 4096)) 0 (4096 * s .size);
-    words = λ f i lf li. sym (word-bytes bytes-of (4096 * f + 8 * i) ∙ bytes-made 7 bytes-of (4096 * f + 8 * i) (s .word f i) (λ k lk. bytes-at f i k lf li (omega arith) ∙ byte-is k (s .word f i)) (top (s .word f i) (h f i)));
+    words = λ f i lf li. sym (word-bytes bytes-of (4096 * f + 8 * i)
+        ∙ bytes-made 7 bytes-of (4096 * f + 8 * i) (s .word f i) (λ k lk. bytes-at f i k lf li (omega arith) ∙ byte-is k (s .word f i))
+        (top (s .word f i) (h f i)));
   }
     where
       top : (w : ℕ) → w < 2 ^ 64 → w / 2 ^ 56 < 256

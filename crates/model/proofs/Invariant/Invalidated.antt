@@ -61,11 +61,13 @@ module _ (g : ℕ) where
       room = c .room;
       beyond = λ t l. rw (c .beyond t l);
       table-exists = λ t h n p a. c .table-exists t h n p (released-from (s .kind t) (table h n p) a refl);
-      tables = λ t h n p a i l. fits-keep (s .kind) (λ f. released g (s .kind f)) (May s) (May (clean s g)) h (λ t n p b. rw b) n (p * 512 + i) (entry-at s t i)
+      tables = λ t h n p a i l. fits-keep (s .kind) (λ f. released g (s .kind f)) (May s) (May (clean s g)) h (λ t n p b. rw b) n
+          (p * 512 + i) (entry-at s t i)
           (λ f r z e m. keep-may h f r m) (c .tables t h n p (released-from (s .kind t) (table h n p) a refl) i l);
       draining = λ t h n p a i l.
           let ne = not-mine (s .kind t) h n p a in
-          stale-keep (s .kind) (λ f. released g (s .kind f)) h (λ t n p b. rw (b, ne-eqb h g ne)) (λ f b. rw (b, ne-eqb h g ne)) n (p * 512 + i) (entry-at s t i)
+          stale-keep (s .kind) (λ f. released g (s .kind f)) h (λ t n p b. rw (b, ne-eqb h g ne)) (λ f b. rw (b, ne-eqb h g ne)) n
+          (p * 512 + i) (entry-at s t i)
           (c .draining t h n p (released-from (s .kind t) (draining-table h n p) a refl) i l);
       roots = λ h l. rw (c .roots h l);
       page-exists = λ f h a. c .page-exists f h (released-from (s .kind f) (page h) a refl);
@@ -83,7 +85,8 @@ module _ (g : ℕ) where
       page-ok = λ h v x r a.
           let b = q .page-ok h v x r (a .1) in
           (b .0, b .1, elim (b .2) [ inl d ↦ inl (keep-may h (b .0) r d) | inr d ↦ inr (rw (d, ne-eqb h g (a .0))) ]);
-      table-now = λ h n p x d a. let b = q .table-now h n p x (sym (upd-other (s .dirty) g false h (a .0)) ∙ d) (a .1) in (b .0, b .1, rw (b .2));
+      table-now = λ h n p x d a. let b = q .table-now h n p x (sym (upd-other (s .dirty) g false h (a .0)) ∙ d) (a .1)
+          in (b .0, b .1, rw (b .2));
       page-now = λ h v x r d a.
           let b = q .page-now h v x r (sym (upd-other (s .dirty) g false h (a .0)) ∙ d) (a .1) in
           let m = b .2 in

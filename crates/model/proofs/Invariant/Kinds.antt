@@ -14,14 +14,16 @@ pub clash : {x y : Frame-kind} → x ≡ y → eqb (kind-number x) (kind-number 
 clash {x} {y} e q = eqb-false (kind-number x) (kind-number y) q (ap kind-number e)
 
 -- frame f was x and becomes y: frames of another sort stay what they are
-pub kind-keep : (kind : ℕ → Frame-kind) (f : ℕ) (x y : Frame-kind) → kind f ≡ x → (t : ℕ) (z : Frame-kind) → kind t ≡ z → eqb (kind-number x) (kind-number z) ≡ false → upd kind f y t ≡ z
+pub kind-keep : (kind : ℕ → Frame-kind) (f : ℕ) (x y : Frame-kind) → kind f ≡ x → (t : ℕ) (z : Frame-kind) → kind t ≡ z →
+    eqb (kind-number x) (kind-number z) ≡ false → upd kind f y t ≡ z
 kind-keep kind f x y hf t z ht q =
     elim (eq? t f) [
       | inl p ↦ absurd (clash {x = x} {y = z} (sym hf ∙ ap kind (sym p) ∙ ht) q)
       | inr p ↦ upd-other kind f y t p ∙ ht
     ]
 
-pub kind-from : (kind : ℕ → Frame-kind) (f : ℕ) (y : Frame-kind) (t : ℕ) (z : Frame-kind) → upd kind f y t ≡ z → eqb (kind-number y) (kind-number z) ≡ false → kind t ≡ z
+pub kind-from : (kind : ℕ → Frame-kind) (f : ℕ) (y : Frame-kind) (t : ℕ) (z : Frame-kind) → upd kind f y t ≡ z →
+    eqb (kind-number y) (kind-number z) ≡ false → kind t ≡ z
 kind-from kind f y t z h q = upd-not kind f y z t (λ e. clash {x = y} {y = z} e q) h .1
 
 pub free-is : (x : Frame-kind) → is-free x ≡ true → x ≡ free

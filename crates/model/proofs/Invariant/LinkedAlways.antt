@@ -29,14 +29,18 @@ unfolding set-up check started
 set-up-linked fits b n k w s e = go (fits && ram-fits b n && ltb k n) e
   where
     go : (t : Bool) → check t 4 (done (started b n k w)) ≡ done s → Linked s
-    go true e = let z : started b n k w ≡ s = cc in let y : Linked (started b n k w) = record { hangs = λ t g h p a. absurd (neither n k t (table g h p) a refl refl) } in rw z at y
+    go true e = let z : started b n k w ≡ s = cc in let y : Linked (started b n k w) =
+        record { hangs = λ t g h p a. absurd (neither n k t (table g h p) a refl refl) } in rw z at y
     go false e = let z : _≡_ {A = ℕ} 0 1 = cc in absurd (omega arith)
 
 pub linked-always : {m z : Machine} → SetUp m → Run m z → Linked (z .state)
-linked-always {m} x r = run-keeps Linked answer-linked written r (set-up-holds x) (set-up-linked true (x .b) (x .n) (x .k) (x .word) (m .state) (x .accepted))
+linked-always {m} x r = run-keeps Linked answer-linked written r (set-up-holds x)
+    (set-up-linked true (x .b) (x .n) (x .k) (x .word) (m .state) (x .accepted))
   where
     written : Stores-keep Linked
-    written m h l g f o x n b a = stored-linked (m .state) l f o x (λ g′ h′ p k. not-allowed (m .state) g f writing (table g′ h′ p) k refl refl (frame-allowed h g writing ((m .state .first + f) * 4096 + o) f (omega arith) a))
+    written m h l g f o x n b a = stored-linked (m .state) l f o x
+        (λ g′ h′ p k. not-allowed (m .state) g f writing (table g′ h′ p) k refl refl
+        (frame-allowed h g writing ((m .state .first + f) * 4096 + o) f (omega arith) a))
 
 module _ (s : State) (c : Core s) where
   -- nothing counted, nothing translates to it
@@ -44,7 +48,8 @@ module _ (s : State) (c : Core s) where
   uncounted f g z v r l e =
       let w = translate-from s g v f r e in
       let k = leaf-kind s c g v (w .0) l (w .1) in
-      places-zero s f g (sym (c .counts f g) ∙ z) (w .0) (v / 512) (v % 512) r (low s c (w .0) (table g 0 (v / 512)) k refl) (omega arith) k (w .2)
+      places-zero s f g (sym (c .counts f g) ∙ z) (w .0) (v / 512) (v % 512) r (low s c (w .0) (table g 0 (v / 512)) k refl) (omega arith)
+      k (w .2)
 
 -- a sum that is not 0 has a part that is not
 sum-some : (n : ℕ) (f : ℕ → ℕ) → 0 < sum n f → (k : ℕ) × (k < n) × (0 < f k)
@@ -71,7 +76,8 @@ hit-is x e f g l = go x e l
     parts true false l = absurd (omega arith)
     parts false b l = absurd (omega arith)
 
-    last : (g′ n p : ℕ) (e : Entry) → 0 < cond ((eqb g′ g && eqb n 0) && leads e f) 1 0 → (p′ r : ℕ) × (table g′ n p ≡ table g 0 p′) × (e ≡ to-page f r)
+    last : (g′ n p : ℕ) (e : Entry) → 0 < cond ((eqb g′ g && eqb n 0) && leads e f) 1 0 →
+        (p′ r : ℕ) × (table g′ n p ≡ table g 0 p′) × (e ≡ to-page f r)
     last g′ n p empty l = absurd (no-bool (eqb g′ g && eqb n 0) l)
     last g′ n p (to-table t) l = absurd (no-bool (eqb g′ g && eqb n 0) l)
     last g′ n p (other y) l = absurd (no-bool (eqb g′ g && eqb n 0) l)
@@ -126,11 +132,13 @@ module _ (s : State) (c : Core s) (l : Linked s) where
   last-leaf t g v k = leaf-there s c g v (c .table-exists t g 0 (v / 512) k) ∙ comes-there s c l g v t k
 
   -- so an entry of it is what its page translates to
-  pub entry-translates : (t g v f r : ℕ) → s .kind t ≡ table g 0 (v / 512) → entry-at s t (v % 512) ≡ to-page f r → translate s g v ≡ some (f, r)
+  pub entry-translates : (t g v f r : ℕ) → s .kind t ≡ table g 0 (v / 512) → entry-at s t (v % 512) ≡ to-page f r →
+      translate s g v ≡ some (f, r)
   entry-translates t g v f r k e = translate-at s g v t f r (last-leaf t g v k) e
 
   -- what is counted translates somewhere
-  pub mapped-somewhere : (f g : ℕ) → 0 < s .count f g → (v r t : ℕ) × (v < page-count) × (s .exists g ≡ true) × (leaf s g v ≡ some t) × (translate s g v ≡ some (f, r))
+  pub mapped-somewhere : (f g : ℕ) → 0 < s .count f g → (v r t : ℕ) × (v < page-count) × (s .exists g ≡ true) × (leaf s g v ≡ some t) ×
+      (translate s g v ≡ some (f, r))
   mapped-somewhere f g n =
       let a = counted s c f g n in
       let t = a .0 in let p = a .1 in let i = a .2 in let r = a .3 in

@@ -45,7 +45,8 @@ some-is none e = (0, 0, cc)
 some-is (some p) e = (p .0, p .1, refl)
 
 -- a last table's entry is empty where nothing is mapped
-empty-is : (s : State) (g v u : ℕ) → Core s → s .kind u ≡ table g 0 (v / 512) → page-in (entry-at s u (v % 512)) ≡ none → entry-at s u (v % 512) ≡ empty
+empty-is : (s : State) (g v u : ℕ) → Core s → s .kind u ≡ table g 0 (v / 512) → page-in (entry-at s u (v % 512)) ≡ none →
+    entry-at s u (v % 512) ≡ empty
 empty-is s g v u c a e = go (entry-at s u (v % 512)) (c .tables u g 0 (v / 512) a (v % 512) (omega arith)) e
   where
     go : (x : Entry) → Fits (s .kind) (May s) g 0 (v / 512 * 512 + v % 512) x → page-in x ≡ none → x ≡ empty
@@ -56,11 +57,13 @@ empty-is s g v u c a e = go (entry-at s u (v % 512)) (c .tables u g 0 (v / 512) 
 
 module _ (s : State) (c : Core s) where
   -- what map finds when the tables are there: the state before the entry is written
-  module _ (k : Caches) (q : Kept s k) (g v : ℕ) (pick : ℕ → ℕ) (lg : s .exists g ≡ true) (lv : v < page-count) (ch : Choice s pick) (room : missing s g v ≤ free-frames s) where
+  module _ (k : Caches) (q : Kept s k) (g v : ℕ) (pick : ℕ → ℕ) (lg : s .exists g ≡ true) (lv : v < page-count) (ch : Choice s pick)
+      (room : missing s g v ≤ free-frames s) where
     pub grown-for : Grew k s 3 g (s .root g) v (grow 3 s g (s .root g) v pick .state) (grow 3 s g (s .root g) v pick .last)
     grown-for = grow-grew k 3 s c g (s .root g) v pick ch room (root-serves (s .kind (s .root g)) g v (c .roots g lg) lv) q
 
-    pub grown-empty : translate s g v ≡ none → entry-at (grow 3 s g (s .root g) v pick .state) (grow 3 s g (s .root g) v pick .last) (v % 512) ≡ empty
+    pub grown-empty : translate s g v ≡ none → entry-at (grow 3 s g (s .root g) v pick .state) (grow 3 s g (s .root g) v pick .last)
+        (v % 512) ≡ empty
     unfolding translate
     grown-empty n =
         let z = grown-for in
@@ -79,7 +82,8 @@ module _ (s : State) (c : Core s) where
       let w = grown-empty k q g v pick e1 l ch room (none-is (translate s g v) (not-true (mapped s g v) e7)) in
       then-done (record {
         core = page-core (x .state) (z .core) (x .last) g (v / 512) (v % 512) (z .last) (omega arith) f r w m (rights-low r e4);
-        kept = page-kept (x .state) (z .core) (x .last) g (v / 512) (v % 512) (z .last) (omega arith) f r w m (rights-low r e4) k (z .kept);
+        kept = page-kept (x .state) (z .core) (x .last) g (v / 512) (v % 512) (z .last) (omega arith) f r w m (rights-low r e4) k
+            (z .kept);
       })
     where
       v : ℕ
@@ -89,7 +93,8 @@ module _ (s : State) (c : Core s) where
       x = grow 3 s g (s .root g) v pick
 
   -- the state after unmap, by the place that was found
-  pub without-is : (g v t f r : ℕ) → leaf s g v ≡ some t → translate s g v ≡ some (f, r) → without-mapping s g v ≡ without-page s t (v % 512) f g
+  pub without-is : (g v t f r : ℕ) → leaf s g v ≡ some t → translate s g v ≡ some (f, r) →
+      without-mapping s g v ≡ without-page s t (v % 512) f g
   unfolding without-mapping
   without-is g v t f r a b = rw (a, b)
 

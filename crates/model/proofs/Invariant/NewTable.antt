@@ -36,15 +36,18 @@ module _ (s : State) (c : Core s) (t i t′ g h p q : ℕ) (ht : s .kind t ≡ t
 
   pub linked-here : entry-at (with-table s t i t′ g h q) t i ≡ to-table t′
   unfolding with-table
-  linked-here = ap (entry (s .first)) (upd2-same (upd (s .word) t′ zeros) t i (table-entry (s .first) t′)) ∙ entry-table (s .first) t′ (in-room s c t′ free hf refl)
+  linked-here = ap (entry (s .first)) (upd2-same (upd (s .word) t′ zeros) t i (table-entry (s .first) t′))
+      ∙ entry-table (s .first) t′ (in-room s c t′ free hf refl)
 
   pub linked-new : (u : ℕ) → u ≡ t′ → (j : ℕ) → with-table s t i t′ g h q .word u j ≡ 0
   unfolding with-table zeros
-  linked-new u e j = upd2-other (upd (s .word) t′ zeros) t i (table-entry (s .first) t′) u j (λ a b. not-itself (sym e ∙ a)) ∙ ap (λ (r : ℕ → ℕ). r j) (upd-at (s .word) t′ zeros u e)
+  linked-new u e j = upd2-other (upd (s .word) t′ zeros) t i (table-entry (s .first) t′) u j (λ a b. not-itself (sym e ∙ a))
+      ∙ ap (λ (r : ℕ → ℕ). r j) (upd-at (s .word) t′ zeros u e)
 
   pub linked-old : (u : ℕ) → (u ≡ t′ → ⊥) → (j : ℕ) → (u ≡ t → j ≡ i → ⊥) → with-table s t i t′ g h q .word u j ≡ s .word u j
   unfolding with-table
-  linked-old u e j d = upd2-other (upd (s .word) t′ zeros) t i (table-entry (s .first) t′) u j d ∙ ap (λ (r : ℕ → ℕ). r j) (upd-other (s .word) t′ zeros u e)
+  linked-old u e j d = upd2-other (upd (s .word) t′ zeros) t i (table-entry (s .first) t′) u j d
+      ∙ ap (λ (r : ℕ → ℕ). r j) (upd-other (s .word) t′ zeros u e)
 
   new : (u : ℕ) → u ≡ t′ → (j : ℕ) → entry (s .first) (s′ .word u j) ≡ empty
   unfolding s′
@@ -80,7 +83,8 @@ module _ (s : State) (c : Core s) (t i t′ g h p q : ℕ) (ht : s .kind t ≡ t
     | inr e ↦ let b = sym (upd-other (s .kind) t′ (table g h q) u e) ∙ a in elim (both? u t j i) [
       | inl d ↦ rw (d .0, d .1, here) (fit u g′ n p′ j (d .0) (d .1) b)
       | inr d ↦ rw (old u e j d)
-          (fits-keep (s .kind) (upd (s .kind) t′ (table g h q)) (May s) (May s′) g′ (λ t n p b. keep t (table g′ n p) b refl) n (p′ * 512 + j) (entry-at s u j)
+          (fits-keep (s .kind) (upd (s .kind) t′ (table g h q)) (May s) (May s′) g′ (λ t n p b. keep t (table g′ n p) b refl) n
+          (p′ * 512 + j) (entry-at s u j)
           (λ f r z e m. linked-may g′ f r m) (c .tables u g′ n p′ b j l))
     ]
   ]
@@ -88,7 +92,8 @@ module _ (s : State) (c : Core s) (t i t′ g h p q : ℕ) (ht : s .kind t ≡ t
       here : entry (s .first) (s′ .word t i) ≡ to-table t′
       here = unfold with-table in linked-here
 
-      fit : (u g′ n p′ j : ℕ) → u ≡ t → j ≡ i → s .kind u ≡ table g′ n p′ → Fits (upd (s .kind) t′ (table g h q)) (May s′) g′ n (p′ * 512 + i) (to-table t′)
+      fit : (u g′ n p′ j : ℕ) → u ≡ t → j ≡ i → s .kind u ≡ table g′ n p′ →
+          Fits (upd (s .kind) t′ (table g h q)) (May s′) g′ n (p′ * 512 + i) (to-table t′)
       fit u g′ n p′ j x y b =
           let g= : g ≡ g′ = cc in let n= : suc h ≡ n = cc in let p= : p ≡ p′ = cc in
           rw (← g=, ← n=, ← p=) (upd-same (s .kind) t′ (table g h q) ∙ rw hq)
@@ -99,21 +104,25 @@ module _ (s : State) (c : Core s) (t i t′ g h p q : ℕ) (ht : s .kind t ≡ t
     room = c .room;
     beyond = λ u l. keep u monitor (c .beyond u l) refl;
     table-exists = λ u g′ n p′ a. elim (eq? u t′) [
-      | inl e ↦ let b = sym (upd-at (s .kind) t′ (table g h q) u e) ∙ a in let g= : g ≡ g′ = cc in rw (← g=) (c .table-exists t g (suc h) p ht)
+      | inl e ↦ let b = sym (upd-at (s .kind) t′ (table g h q) u e)
+          ∙ a in let g= : g ≡ g′ = cc in rw (← g=) (c .table-exists t g (suc h) p ht)
       | inr e ↦ c .table-exists u g′ n p′ (sym (upd-other (s .kind) t′ (table g h q) u e) ∙ a)
     ];
     tables = new-tables;
     draining = λ u g′ n p′ a j l.
         let b = from u (draining-table g′ n p′) a refl in
-        rw (old u (not-new u (draining-table g′ n p′) b refl) j (λ (x : u ≡ t) y. clash {x = draining-table g′ n p′} {y = table g (suc h) p} (sym b ∙ ap (s .kind) x ∙ ht) refl))
-        (stale-keep (s .kind) (upd (s .kind) t′ (table g h q)) g′ (λ u n p b. keep u (draining-table g′ n p) b refl) (λ f b. keep f (draining-page g′) b refl) n (p′ * 512 + j) (entry-at s u j) (c .draining u g′ n p′ b j l));
+        rw (old u (not-new u (draining-table g′ n p′) b refl) j
+        (λ (x : u ≡ t) y. clash {x = draining-table g′ n p′} {y = table g (suc h) p} (sym b ∙ ap (s .kind) x ∙ ht) refl))
+        (stale-keep (s .kind) (upd (s .kind) t′ (table g h q)) g′ (λ u n p b. keep u (draining-table g′ n p) b refl)
+        (λ f b. keep f (draining-page g′) b refl) n (p′ * 512 + j) (entry-at s u j) (c .draining u g′ n p′ b j l));
     roots = λ g′ l. keep (s .root g′) (table g′ 3 0) (c .roots g′ l) refl;
     page-exists = λ f g′ a. c .page-exists f g′ (from f (page g′) a refl);
     strangers = λ f o g′ a l. c .strangers f o g′ (from f (page o) a refl) l;
     guests-only = c .guests-only;
     counts = λ f g′. c .counts f g′ ∙ places-cong s s′ f g′ refl (λ u j l m.
         elim (eq? u t′) [
-          | inl e ↦ rw (new u e j, hit-empty (upd (s .kind) t′ (table g h q) u) f g′) (rw (e, hf) (hit-plain free (entry-at s t′ j) f g′ refl))
+          | inl e ↦ rw (new u e j, hit-empty (upd (s .kind) t′ (table g h q) u) f g′)
+              (rw (e, hf) (hit-plain free (entry-at s t′ j) f g′ refl))
           | inr e ↦ rw (upd-other (s .kind) t′ (table g h q) u e) (elim (eq? u t) [
             | inl x ↦ rw (x, ht, hit-high g h p (entry-at s t j) f g′, hit-high g h p (entry (s .first) (s′ .word t j)) f g′)
             | inr x ↦ rw (old u e j (λ a b. x a))
@@ -125,8 +134,14 @@ module _ (s : State) (c : Core s) (t i t′ g h p q : ℕ) (ht : s .kind t ≡ t
   unfolding with-table s′
   linked-kept k z = record {
     table-ok = λ g′ n p′ x a.
-        let b = z .table-ok g′ n p′ x a in
-        (b .0, b .1, elim (b .2) [ inl d ↦ inl (keep (b .0) (table g′ n p′) d refl) | inr d ↦ inr (keep (b .0) (draining-table g′ n p′) d refl) ]);
+        let b = z .table-ok g′ n p′ x a in (
+          b .0,
+          b .1,
+          elim (b .2) [
+            | inl d ↦ inl (keep (b .0) (table g′ n p′) d refl)
+            | inr d ↦ inr (keep (b .0) (draining-table g′ n p′) d refl)
+          ],
+        );
     page-ok = λ g′ v x r a.
         let b = z .page-ok g′ v x r a in
         (b .0, b .1, elim (b .2) [ inl d ↦ inl (linked-may g′ (b .0) r d) | inr d ↦ inr (keep (b .0) (draining-page g′) d refl) ]);
@@ -140,7 +155,8 @@ module _ (s : State) (c : Core s) (t i t′ g h p q : ℕ) (ht : s .kind t ≡ t
           (
             m .0,
             keep (m .0) (table g′ 0 (v / 512)) m1 refl,
-            old (m .0) (not-new (m .0) (table g′ 0 (v / 512)) m1 refl) (v % 512) (λ (y : m .0 ≡ t) e. let o : 0 ≡ suc h = cc in omega arith) ∙ m .2,
+            old (m .0) (not-new (m .0) (table g′ 0 (v / 512)) m1 refl) (v % 512)
+                (λ (y : m .0 ≡ t) e. let o : 0 ≡ suc h = cc in omega arith) ∙ m .2,
           ),
         );
   }

@@ -23,7 +23,8 @@ run-same : {m z : Machine} → Run m z → Holds m → Same-place (m .state) (z 
 run-same {m} r h = run-keeps (Same-place (m .state)) answered written r h (record { first = refl; size = refl })
   where
     answered : Answers-keep (Same-place (m .state))
-    answered s c p o ch = then-more (answer s o) (λ s′ x. record { first = x .first ∙ p .first; size = x .size ∙ p .size }) (orderly s c o ch)
+    answered s c p o ch = then-more (answer s o) (λ s′ x. record { first = x .first ∙ p .first; size = x .size ∙ p .size })
+        (orderly s c o ch)
 
     written : Stores-keep (Same-place (m .state))
     written m h p g f o x n b a = unfold stored in record { first = p .first; size = p .size }

@@ -35,7 +35,8 @@ module _ (s : State) (c : Core s) (t g p i : ℕ) (ht : s .kind t ≡ table g 0 
     set-same = ap (entry (s .first)) (upd2-same (s .word) t i x) ∙ he
 
     set-tables : Fits (s .kind) (May s) g 0 (p * 512 + i) e →
-        (t′ g′ h p′ : ℕ) → s .kind t′ ≡ table g′ h p′ → (j : ℕ) → j < 512 → Fits (s .kind) (May s) g′ h (p′ * 512 + j) (entry (s .first) (w′ t′ j))
+        (t′ g′ h p′ : ℕ) → s .kind t′ ≡ table g′ h p′ → (j : ℕ) → j < 512 →
+        Fits (s .kind) (May s) g′ h (p′ * 512 + j) (entry (s .first) (w′ t′ j))
     set-tables ok t′ g′ h p′ b j l = elim (eq? t′ t) [
       | inr a ↦ rw (set-other t′ j (λ x y. a x)) (c .tables t′ g′ h p′ b j l)
       | inl a ↦ elim (eq? j i) [
@@ -46,12 +47,15 @@ module _ (s : State) (c : Core s) (t g p i : ℕ) (ht : s .kind t ≡ table g 0 
       ]
     ]
 
-    set-draining : (t′ g′ h p′ : ℕ) → s .kind t′ ≡ draining-table g′ h p′ → (j : ℕ) → j < 512 → Stale (s .kind) g′ h (p′ * 512 + j) (entry (s .first) (w′ t′ j))
+    set-draining : (t′ g′ h p′ : ℕ) → s .kind t′ ≡ draining-table g′ h p′ → (j : ℕ) → j < 512 →
+        Stale (s .kind) g′ h (p′ * 512 + j) (entry (s .first) (w′ t′ j))
     set-draining t′ g′ h p′ b j l =
-        rw (set-other t′ j (λ (a : t′ ≡ t) d. clash {x = table g 0 p} {y = draining-table g′ h p′} (sym ht ∙ ap (s .kind) (sym a) ∙ b) refl)) (c .draining t′ g′ h p′ b j l)
+        rw (set-other t′ j (λ (a : t′ ≡ t) d. clash {x = table g 0 p} {y = draining-table g′ h p′} (sym ht ∙ ap (s .kind) (sym a) ∙ b)
+        refl)) (c .draining t′ g′ h p′ b j l)
 
   -- an entry that leads to f is one place for f and g, and none for others
-  hit-one : (f r f′ h : ℕ) → ((f′ ≡ f) × (h ≡ g) × (hit (s .kind t) (to-page f r) f′ h ≡ 1)) ⊎ ((f′ ≡ f → h ≡ g → ⊥) × (hit (s .kind t) (to-page f r) f′ h ≡ 0))
+  hit-one : (f r f′ h : ℕ) → ((f′ ≡ f) × (h ≡ g) × (hit (s .kind t) (to-page f r) f′ h ≡ 1)) ⊎
+      ((f′ ≡ f → h ≡ g → ⊥) × (hit (s .kind t) (to-page f r) f′ h ≡ 0))
   hit-one f r f′ h = elim (eq? f′ f) [
     | inr x ↦ inr (λ u v. x u, hit-else f′ f r (s .kind t) h (λ (y : f ≡ f′). x (sym y)))
     | inl x ↦ elim (eq? h g) [
@@ -72,7 +76,8 @@ module _ (s : State) (c : Core s) (t g p i : ℕ) (ht : s .kind t ≡ table g 0 
         let b = rw (was, hit-empty (s .kind t) f′ h, set-same (page-entry (s .first) f r) (to-page f r) wrote) at a in
         let d = c .counts f′ h in
         elim (hit-one f r f′ h) [
-          | inl x ↦ let z = x .2 in let same : s .count f′ h ≡ s .count f g = ap (λ (y : ℕ). s .count y h) (x .0) ∙ ap (s .count f) (x .1) in rw (upd2-at (s .count) f g (suc (s .count f g)) f′ h (x .0) (x .1)) (omega arith)
+          | inl x ↦ let z = x .2 in let same : s .count f′ h ≡ s .count f g = ap (λ (y : ℕ). s .count y h) (x .0)
+              ∙ ap (s .count f) (x .1) in rw (upd2-at (s .count) f g (suc (s .count f g)) f′ h (x .0) (x .1)) (omega arith)
           | inr x ↦ let z = x .1 in rw (upd2-other (s .count) f g (suc (s .count f g)) f′ h (x .0)) (omega arith)
         ]
 
@@ -124,7 +129,8 @@ module _ (s : State) (c : Core s) (t g p i : ℕ) (ht : s .kind t ≡ table g 0 
         let b = rw (was, set-same 0 empty gone, hit-empty (s .kind t) f′ h) at a in
         let d = c .counts f′ h in
         elim (hit-one f r f′ h) [
-          | inl x ↦ let z = x .2 in let same : s .count f′ h ≡ s .count f g = ap (λ (y : ℕ). s .count y h) (x .0) ∙ ap (s .count f) (x .1) in rw (upd2-at (s .count) f g (pred (s .count f g)) f′ h (x .0) (x .1)) (omega arith)
+          | inl x ↦ let z = x .2 in let same : s .count f′ h ≡ s .count f g = ap (λ (y : ℕ). s .count y h) (x .0)
+              ∙ ap (s .count f) (x .1) in rw (upd2-at (s .count) f g (pred (s .count f g)) f′ h (x .0) (x .1)) (omega arith)
           | inr x ↦ let z = x .1 in rw (upd2-other (s .count) f g (pred (s .count f g)) f′ h (x .0)) (omega arith)
         ]
 

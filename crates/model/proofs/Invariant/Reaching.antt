@@ -20,7 +20,8 @@ use Rattle.model.proofs.Invariant.Way.{root-serves, step-kind, leaf-fro
 use Rattle.model.proofs.Invariant.Pages.{may-room}
 
 module _ (s : State) (c : Core s) (k : Caches) (g v : ℕ) where
-  way-down : (h t : ℕ) → s .kind t ≡ table g h (upper (suc h) v) → Table s k g h (upper (suc h) v) (s .first + t) → (u : ℕ) → descend s h t v ≡ some u → Table s k g 0 (upper 1 v) (s .first + u)
+  way-down : (h t : ℕ) → s .kind t ≡ table g h (upper (suc h) v) → Table s k g h (upper (suc h) v) (s .first + t) → (u : ℕ) →
+      descend s h t v ≡ some u → Table s k g 0 (upper 1 v) (s .first + u)
   unfolding descend
   way-down zero t a x u e = let z : t ≡ u = cc in rw z at x
   way-down (suc h) t a x u e = go (way-down h) (entry-at s t i) refl e
@@ -28,14 +29,17 @@ module _ (s : State) (c : Core s) (k : Caches) (g v : ℕ) where
       i : ℕ
       i = index (suc h) v
 
-      down : (t′ : ℕ) → entry-at s t i ≡ to-table t′ → s .kind t′ ≡ table g h (upper (suc h) v) → Table s k g h (upper (suc h) v) (s .first + t′)
+      down : (t′ : ℕ) → entry-at s t i ≡ to-table t′ → s .kind t′ ≡ table g h (upper (suc h) v) →
+          Table s k g h (upper (suc h) v) (s .first + t′)
       down t′ q b = unfold upper in
           let room = in-room s c t′ (table g h (upper (suc h) v)) b refl in
-          let d : descriptor (suc h) (s .word t i) ≡ next (s .first + t′) = ap (descriptor (suc h)) (is-table (s .first) (s .word t i) t′ q) ∙ descriptor-table (s .first) t′ room h in
+          let d : descriptor (suc h) (s .word t i) ≡ next (s .first + t′) =
+          ap (descriptor (suc h)) (is-table (s .first) (s .word t i) t′ q) ∙ descriptor-table (s .first) t′ room h in
           let w = from-word x t i refl (low s c t (table g (suc h) (upper (suc (suc h)) v)) a refl) (omega arith) d in
           rw (div-add-mod' (upper h v / 512) 512) at w
 
-      go : ((t : ℕ) → s .kind t ≡ table g h (upper (suc h) v) → Table s k g h (upper (suc h) v) (s .first + t) → (u : ℕ) → descend s h t v ≡ some u → Table s k g 0 (upper 1 v) (s .first + u)) →
+      go : ((t : ℕ) → s .kind t ≡ table g h (upper (suc h) v) → Table s k g h (upper (suc h) v) (s .first + t) → (u : ℕ) →
+          descend s h t v ≡ some u → Table s k g 0 (upper 1 v) (s .first + u)) →
           (y : Entry) → entry-at s t i ≡ y → into y none (λ t′. descend s h t′ v) ≡ some u → Table s k g 0 (upper 1 v) (s .first + u)
       go ih empty q e = let z : _≡_ {A = ℕ} 0 1 = cc in absurd (omega arith)
       go ih (to-table t′) q e = let b = step-kind s c g h t v t′ a q in ih t′ b (down t′ q b) u e
@@ -55,11 +59,13 @@ module _ (s : State) (c : Core s) (k : Caches) (g v : ℕ) where
       let kt = leaf-kind s c g v t l (w .1) in
       let m = rw (w .2) at (c .tables t g 0 (v / 512) kt (v % 512) (omega arith)) in
       let d : descriptor 0 (s .word t (v % 512)) ≡ output (s .first + f) r =
-      ap (descriptor 0) (is-to-page (s .first) (s .word t (v % 512)) f r (w .2)) ∙ descriptor-page (s .first) f r (may-room s c g f r m) (page-low (s .first) (s .word t (v % 512)) f r (w .2)) in
+      ap (descriptor 0) (is-to-page (s .first) (s .word t (v % 512)) f r (w .2))
+      ∙ descriptor-page (s .first) f r (may-room s c g f r m) (page-low (s .first) (s .word t (v % 512)) f r (w .2)) in
       let x = way-down 3 (s .root g) (root-serves (s .kind (s .root g)) g v (c .roots g (lf .0)) l) (root-table (lf .0) l) t (lf .1) in
       read-off 0 (s .first + t) t (s .first + f) x refl (low s c t (table g 0 (v / 512)) kt refl) d refl
 
-pub reaches-mapped : (m : Machine) → Core (m .state) → (g v f r : ℕ) (w : Access) (o : ℕ) → v < page-count → translate (m .state) g v ≡ some (f, r) → grants r w ≡ true → o < 4096 →
+pub reaches-mapped : (m : Machine) → Core (m .state) → (g v f r : ℕ) (w : Access) (o : ℕ) → v < page-count →
+    translate (m .state) g v ≡ some (f, r) → grants r w ≡ true → o < 4096 →
     Reaches m g w ((m .state .first + f) * 4096 + o)
 unfolding Reach
 reaches-mapped m c g v f r w o l e a b =
@@ -102,7 +108,8 @@ kept-after k (Unshare o f h) g v x r e a = a
 kept-after k (Destroy h) g v x r e a = a
 kept-after k (Invalidated h) g v x r e a = (λ (p : g ≡ h). eqb-false h g e (sym p), a)
 
-pub call-keeps : (m : Machine) (o : Operation) (g : ℕ) → reported g o ≡ false → (v x r : ℕ) → m .caches .page-kept g v x r → call m o .caches .page-kept g v x r
+pub call-keeps : (m : Machine) (o : Operation) (g : ℕ) → reported g o ≡ false → (v x r : ℕ) → m .caches .page-kept g v x r →
+    call m o .caches .page-kept g v x r
 unfolding call
 call-keeps m o g n v x r a = go (answer (m .state) o)
   where

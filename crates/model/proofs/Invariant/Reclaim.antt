@@ -33,7 +33,8 @@ asked-then (ask o s′ p ch e x) y = ask o s′ p ch e (asked-then x y)
 
 -- what is answered 0
 module _ (s : State) (c : Core s) where
-  unmap-granted : (h v t f r : ℕ) → v < page-count → s .exists h ≡ true → leaf s h v ≡ some t → translate s h v ≡ some (f, r) → answer s (Unmap (v * 4096) h) ≡ done (without-page s t (v % 512) f h)
+  unmap-granted : (h v t f r : ℕ) → v < page-count → s .exists h ≡ true → leaf s h v ≡ some t → translate s h v ≡ some (f, r) →
+      answer s (Unmap (v * 4096) h) ≡ done (without-page s t (v % 512) f h)
   unfolding answer unmap check
   unmap-granted h v t f r l e a b =
       let m : v * 4096 % 4096 ≡ 0 = omega arith in
@@ -47,9 +48,19 @@ module _ (s : State) (c : Core s) where
   unshare-granted : (f g h : ℕ) → s .kind f ≡ page g → s .exists h ≡ true → 0 < s .shared f h → s .count f h ≡ 0 → s .dirty h ≡ false →
       answer s (Unshare g f h) ≡ done (becomes s f (page g) (s .word) (upd2 (s .shared) f h 0))
   unfolding answer unshare check
-  unshare-granted f g h k e l z d = rw (c .page-exists f g k, e, lt-ltb f (s .size) (low s c f (page g) k refl), k, eq-eqb g g refl, lt-ltb 0 (s .shared f h) l, z, d)
+  unshare-granted f g h k e l z d = rw (
+    c .page-exists f g k,
+    e,
+    lt-ltb f (s .size) (low s c f (page g) k refl),
+    k,
+    eq-eqb g g refl,
+    lt-ltb 0 (s .shared f h) l,
+    z,
+    d,
+  )
 
-  take-granted : (f g : ℕ) → s .kind f ≡ page g → s .dirty g ≡ false → total (s .count f) ≡ 0 → total (s .shared f) ≡ 0 → answer s (Take f g) ≡ done (becomes s f free (s .word) (s .shared))
+  take-granted : (f g : ℕ) → s .kind f ≡ page g → s .dirty g ≡ false → total (s .count f) ≡ 0 → total (s .shared f) ≡ 0 →
+      answer s (Take f g) ≡ done (becomes s f free (s .word) (s .shared))
   unfolding answer take check
   take-granted f g k d z1 z2 = rw (c .page-exists f g k, lt-ltb f (s .size) (low s c f (page g) k refl), k, eq-eqb g g refl, z1, z2, d)
 
@@ -65,13 +76,25 @@ module _ (f g : ℕ) where
     others : (h′ : ℕ) → (h′ ≡ h → ⊥) → s′ .count f h′ ≡ s .count f h′
 
   unmap-all : (n : ℕ) (s : State) → Core s → Linked s → (h : ℕ) → s .count f h ≡ n → (s′ : State) × Unmapped s h s′
-  unmap-all zero s c l h e = (s, record { core = c; linked = l; asked = nothing; kind = refl; shared = λ h′. refl; none = e; others = λ h′ ne. refl })
+  unmap-all zero s c l h e = (
+    s,
+    record {
+      core = c;
+      linked = l;
+      asked = nothing;
+      kind = refl;
+      shared = λ h′. refl;
+      none = e;
+      others = λ h′ ne. refl;
+    },
+  )
   unmap-all (suc n) s c l h e =
       let a = mapped-somewhere s c l f h (omega arith) in
       let v = a .0 in
       let s1 = without-page s (a .2) (v % 512) f h in
       let g1 = unmap-granted s c h v (a .2) f (a .1) (a .3) (a .4) (a .5) (a .6) in
-      let b = unmap-all n s1 (then-is (answer s (Unmap (v * 4096) h)) s1 (answer-core s c (Unmap (v * 4096) h) tt) g1) (then-is (answer s (Unmap (v * 4096) h)) s1 (answer-linked s c l (Unmap (v * 4096) h) tt) g1) h
+      let b = unmap-all n s1 (then-is (answer s (Unmap (v * 4096) h)) s1 (answer-core s c (Unmap (v * 4096) h) tt) g1)
+      (then-is (answer s (Unmap (v * 4096) h)) s1 (answer-linked s c l (Unmap (v * 4096) h) tt) g1) h
       (one-less s (a .2) (v % 512) h n e) in
       (b .0, more v (a .1) (a .2) (a .6) g1 (b .0) (b .1))
     where
@@ -81,7 +104,8 @@ module _ (f g : ℕ) where
       back : (v r : ℕ) (s : State) (h : ℕ) → translate s h v ≡ some (f, r) → translate s h (v * 4096 / 4096) ≡ some (f, r)
       back v r s h e = let d : v * 4096 / 4096 ≡ v = omega arith in rw d e
 
-      more : (v r t : ℕ) → translate s h v ≡ some (f, r) → answer s (Unmap (v * 4096) h) ≡ done (without-page s t (v % 512) f h) → (s′ : State) → Unmapped (without-page s t (v % 512) f h) h s′ → Unmapped s h s′
+      more : (v r t : ℕ) → translate s h v ≡ some (f, r) → answer s (Unmap (v * 4096) h) ≡ done (without-page s t (v % 512) f h) →
+          (s′ : State) → Unmapped (without-page s t (v % 512) f h) h s′ → Unmapped s h s′
       more v r t e g1 s′ u = record {
         core = u .core;
         linked = u .linked;
@@ -115,16 +139,24 @@ module _ (f g : ℕ) where
           let k2 : s2 .kind f ≡ page g = unfold clean released in ap (released h) (u .kind ∙ k) in
           let d2 : s2 .dirty h ≡ false = unfold clean in upd-same (s1 .dirty) h false in
           let n2 : s2 .count f h ≡ 0 = unfold clean in u .none in
-          let o2 : (h′ : ℕ) → (h′ ≡ h → ⊥) → (s2 .count f h′ ≡ s .count f h′) × (s2 .shared f h′ ≡ s .shared f h′) = unfold clean in λ h′ ne. (u .others h′ ne, u .shared h′) in
+          let o2 : (h′ : ℕ) → (h′ ≡ h → ⊥) → (s2 .count f h′ ≡ s .count f h′) × (s2 .shared f h′ ≡ s .shared f h′) =
+          unfold clean in λ h′ ne. (u .others h′ ne, u .shared h′) in
           let a2 : Asked (Reclaims f g) s s2 = asked-then (u .asked) (ask (Invalidated h) s2 tt tt g2 nothing) in
           unshared? s2 c2 l2 k2 d2 n2 o2 a2 (lt? 0 (s2 .shared f h))
         where
-          unshared? : (s2 : State) (c2 : Core s2) (l2 : Linked s2) (k2 : s2 .kind f ≡ page g) (d2 : s2 .dirty h ≡ false) (n2 : s2 .count f h ≡ 0)
-              (o2 : (h′ : ℕ) → (h′ ≡ h → ⊥) → (s2 .count f h′ ≡ s .count f h′) × (s2 .shared f h′ ≡ s .shared f h′)) (a2 : Asked (Reclaims f g) s s2) →
+          unshared? : (s2 : State) (c2 : Core s2) (l2 : Linked s2) (k2 : s2 .kind f ≡ page g) (d2 : s2 .dirty h ≡ false)
+              (n2 : s2 .count f h ≡ 0)
+              (o2 : (h′ : ℕ) → (h′ ≡ h → ⊥) → (s2 .count f h′ ≡ s .count f h′) × (s2 .shared f h′ ≡ s .shared f h′))
+              (a2 : Asked (Reclaims f g) s s2) →
               (0 < s2 .shared f h) ⊎ (s2 .shared f h ≤ 0) → (s′ : State) × Withdrawn s h s′
-          unshared? s2 c2 l2 k2 d2 n2 o2 a2 (inr z) = (s2, record { core = c2; linked = l2; asked = a2; kind = k2; none = (n2, omega arith); others = o2 })
+          unshared? s2 c2 l2 k2 d2 n2 o2 a2 (inr z) = (
+            s2,
+            record
+                { core = c2; linked = l2; asked = a2; kind = k2; none = (n2, omega arith); others = o2 },
+          )
           unshared? s2 c2 l2 k2 d2 n2 o2 a2 (inl z) =
-              let there : s2 .exists h ≡ true = elim (bool? (s2 .exists h)) [ inl e ↦ e | inr e ↦ let y = c2 .strangers f g h k2 e in absurd (omega arith) ] in
+              let there : s2 .exists h ≡ true = elim (bool? (s2 .exists h))
+              [ inl e ↦ e | inr e ↦ let y = c2 .strangers f g h k2 e in absurd (omega arith) ] in
               let s3 = becomes s2 f (page g) (s2 .word) (upd2 (s2 .shared) f h 0) in
               let g3 = unshare-granted s2 c2 f g h k2 there z n2 d2 in (
                 s3,
@@ -134,7 +166,10 @@ module _ (f g : ℕ) where
                   asked = asked-then a2 (ask (Unshare g f h) s3 (refl, refl) tt g3 nothing);
                   kind = unfold becomes in upd-same (s2 .kind) f (page g);
                   none = ((unfold becomes in n2), (unfold becomes in upd2-same (s2 .shared) f h 0));
-                  others = λ h′ ne. ((unfold becomes in o2 h′ ne .0), (unfold becomes in upd2-other (s2 .shared) f h 0 f h′ (λ x y. ne y) ∙ o2 h′ ne .1));
+                  others = λ h′ ne. (
+                    (unfold becomes in o2 h′ ne .0),
+                    (unfold becomes in upd2-other (s2 .shared) f h 0 f h′ (λ x y. ne y) ∙ o2 h′ ne .1),
+                  );
                 },
               )
 
@@ -168,7 +203,8 @@ module _ (f g : ℕ) where
 
   total-none : (c : ℕ → ℕ) → ((h : ℕ) → 0 < h → h ≤ guests → c h ≡ 0) → total c ≡ 0
   unfolding total
-  total-none c z = sum-cong guests (λ h. c (suc h)) (λ h. 0) (λ h l. z (suc h) (omega arith) (omega arith)) ∙ sum-none guests (λ h. 0) (λ h. refl)
+  total-none c z = sum-cong guests (λ h. c (suc h)) (λ h. 0) (λ h l. z (suc h) (omega arith) (omega arith))
+      ∙ sum-none guests (λ h. 0) (λ h. refl)
 
   pub reclaimed : (s : State) → Core s → Linked s → s .kind f ≡ page g → (s′ : State) × (Asked (Reclaims f g) s s′) × (s′ .kind f ≡ free)
   reclaimed s c l k =
@@ -183,11 +219,15 @@ module _ (f g : ℕ) where
       let z1 : total (s2 .count f) ≡ 0 = unfold clean in total-none (s1 .count f) (λ h a b. p .none h a b .0) in
       let z2 : total (s2 .shared f) ≡ 0 = unfold clean in total-none (s1 .shared f) (λ h a b. p .none h a b .1) in
       let g3 = take-granted s2 c2 f g k2 d2 z1 z2 in
-      let s3 = becomes s2 f free (s2 .word) (s2 .shared) in
-      (s3, asked-then (p .asked) (ask (Invalidated g) s2 tt tt g2 (ask (Take f g) s3 (refl, refl) tt g3 nothing)), unfold becomes in upd-same (s2 .kind) f free)
+      let s3 = becomes s2 f free (s2 .word) (s2 .shared) in (
+        s3,
+        asked-then (p .asked) (ask (Invalidated g) s2 tt tt g2 (ask (Take f g) s3 (refl, refl) tt g3 nothing)),
+        unfold becomes in upd-same (s2 .kind) f free,
+      )
 
 -- what is asked for is a run
-pub asked-run : {P : State → Operation → Type 0} (m : Machine) {s s′ : State} → m .state ≡ s → Asked P s s′ → (z : Machine) × Run m z × (z .state ≡ s′)
+pub asked-run : {P : State → Operation → Type 0} (m : Machine) {s s′ : State} → m .state ≡ s → Asked P s s′ →
+    (z : Machine) × Run m z × (z .state ≡ s′)
 asked-run m e nothing = (m, stop, e)
 asked-run m e (ask {s} o s′ p ch q x) =
     let a : answer (m .state) o ≡ done s′ = ap (λ (y : State). answer y o) e ∙ q in

@@ -68,12 +68,14 @@ module _ (s : State) (c : Core s) where
   module _ (f g a r : ℕ) (pick : ℕ → ℕ) (ch : Choice s pick) (s′ : State) (e : map s f g a r pick ≡ done s′) where
     map-address : Then (λ s′. page-address a ≡ true) (map s f g a r pick)
     unfolding map
-    map-address = checked 5 λ e1. checked 14 λ e2. checked 7 λ e3. checked 8 λ e4. checked 4 λ e5. checked 9 λ e6. checked 10 λ e7. checked 3 λ e8. then-done e3
+    map-address = checked 5 λ e1. checked 14 λ e2. checked 7 λ e3. checked 8 λ e4. checked 4 λ e5. checked 9 λ e6. checked 10 λ e7.
+        checked 3 λ e8. then-done e3
 
     now-mapped : translate s′ g (a / 4096) ≡ some (f, r)
     unfolding expected answer
     now-mapped =
-        then-is (map s f g a r pick) s′ (rows s c (Map f g a r pick) ch) e g (a / 4096) (address-low a (then-is (map s f g a r pick) s′ map-address e))
+        then-is (map s f g a r pick) s′ (rows s c (Map f g a r pick) ch) e g (a / 4096)
+        (address-low a (then-is (map s f g a r pick) s′ map-address e))
         ∙ rw (eq-eqb g g refl, eq-eqb (a / 4096) (a / 4096) refl)
 
     pub after-map : Asked-at g a (some (f, r)) s′
@@ -101,8 +103,10 @@ module _ (s : State) (c : Core s) where
         rw (without-is s c g (a / 4096) t (o .0) (o .1) (w .1) (o .2))
         (then-done (
           t,
-          same-leaf s c (without-page s t (a / 4096 % 512) (o .0) g) t g (a / 4096 / 512) (a / 4096 % 512) ht (omega arith) (λ h. unfold without-page in refl) (λ h. unfold without-page in refl)
-              (λ t′ j ne. unfold without-page in set-other s c t g (a / 4096 / 512) (a / 4096 % 512) ht (omega arith) 0 empty (entry-empty (s .first)) t′ j ne) g (a / 4096) l ∙ w .1,
+          same-leaf s c (without-page s t (a / 4096 % 512) (o .0) g) t g (a / 4096 / 512) (a / 4096 % 512) ht (omega arith)
+              (λ h. unfold without-page in refl) (λ h. unfold without-page in refl)
+              (λ t′ j ne. unfold without-page in set-other s c t g (a / 4096 / 512) (a / 4096 % 512) ht (omega arith) 0 empty
+              (entry-empty (s .first)) t′ j ne) g (a / 4096) l ∙ w .1,
         ))
 
     pub after-unmap : Asked-at g a none s′
@@ -110,10 +114,17 @@ module _ (s : State) (c : Core s) where
         let core = then-is (unmap s a g) s′ (unmap-good s c nothing-kept (nothing-ok s) g a) e .core in
         let at = address-is a (then-is (unmap s a g) s′ unmap-address e) in
         let way = then-is (unmap s a g) s′ leaf-stays e in
-        record { core = core; aligned = at .0; low = at .1; there = is-there s′ core g (a / 4096) (way .0) (way .1); page = unmapped-after s c g a s′ e }
+        record {
+          core = core;
+          aligned = at .0;
+          low = at .1;
+          there = is-there s′ core g (a / 4096) (way .0) (way .1);
+          page = unmapped-after s c g a s′ e;
+        }
 
 -- what document 01's walk then comes to, at offset k of the page
-module _ {s : State} {b : ℕ} {m : List ℕ} (x : Image s b m) {g a : ℕ} {o : Option Page} (y : Asked-at g a o s) (k : ℕ) (l : k < 4096) (w : Access) where
+module _ {s : State} {b : ℕ} {m : List ℕ} (x : Image s b m) {g a : ℕ} {o : Option Page} (y : Asked-at g a o s) (k : ℕ) (l : k < 4096)
+    (w : Access) where
   says-asked : says s b g (a + k) w ≡ comes b k 0 w o
   unfolding says
   says-asked =

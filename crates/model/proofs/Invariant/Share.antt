@@ -47,9 +47,14 @@ module _ (s : State) (c : Core s) (k : Caches) (q : Kept s k) (f g h j : ℕ) (h
   sh = upd2 (s .shared) f h j
 
   same : (f′ : ℕ) → upd (s .kind) f (page g) f′ ≡ s .kind f′
-  same f′ = elim (eq? f′ f) [ inl e ↦ upd-at (s .kind) f (page g) f′ e ∙ sym hf ∙ ap (s .kind) (sym e) | inr e ↦ upd-other (s .kind) f (page g) f′ e ]
+  same f′ = elim (eq? f′ f) [
+    | inl e ↦ upd-at (s .kind) f (page g) f′ e ∙ sym hf
+        ∙ ap (s .kind) (sym e)
+    | inr e ↦ upd-other (s .kind) f (page g) f′ e
+  ]
 
-  keep : (g′ f′ r : ℕ) → (f′ ≡ f → g′ ≡ h → shares (s .shared f′ g′) r ≡ true → shares j r ≡ true) → May s g′ f′ r → May (becomes s f (page g) (s .word) sh) g′ f′ r
+  keep : (g′ f′ r : ℕ) → (f′ ≡ f → g′ ≡ h → shares (s .shared f′ g′) r ≡ true → shares j r ≡ true) → May s g′ f′ r →
+      May (becomes s f (page g) (s .word) sh) g′ f′ r
   unfolding becomes sh
   keep g′ f′ r z (inl a) = inl (same f′ ∙ a)
   keep g′ f′ r z (inr a) = inr (
@@ -64,10 +69,12 @@ module _ (s : State) (c : Core s) (k : Caches) (q : Kept s k) (f g h j : ℕ) (h
     ],
   )
 
-  still : (g′ t p i f′ r : ℕ) → s .kind t ≡ table g′ 0 p → i < 512 → entry-at s t i ≡ to-page f′ r → f′ ≡ f → g′ ≡ h → shares (s .shared f′ g′) r ≡ true → shares j r ≡ true
+  still : (g′ t p i f′ r : ℕ) → s .kind t ≡ table g′ 0 p → i < 512 → entry-at s t i ≡ to-page f′ r → f′ ≡ f → g′ ≡ h →
+      shares (s .shared f′ g′) r ≡ true → shares j r ≡ true
   still g′ t p i f′ r a l b x y e = elim (ok r (rw (x, y) at e)) [
     | inl z ↦ z
-    | inr z ↦ absurd (places-zero s f h (sym (c .counts f h) ∙ z .0) t p i r (low s c t (table g′ 0 p) a refl) l (rw y at a) (b ∙ ap (λ (u : ℕ). to-page u r) x))
+    | inr z ↦ absurd (places-zero s f h (sym (c .counts f h) ∙ z .0) t p i r (low s c t (table g′ 0 p) a refl) l (rw y at a)
+        (b ∙ ap (λ (u : ℕ). to-page u r) x))
   ]
 
   shared-core : Core (becomes s f (page g) (s .word) sh)
@@ -75,10 +82,12 @@ module _ (s : State) (c : Core s) (k : Caches) (q : Kept s k) (f g h j : ℕ) (h
   shared-core = becomes-core s c f (page g) (page g) (s .word) sh hf (refl, refl, refl, refl) refl refl (λ t ne i. refl)
       (λ g′ t p i f′ r a l b m. keep g′ f′ r (still g′ t p i f′ r a l b) m)
       (λ g′ e. let g= : g ≡ g′ = cc in rw (← g=) (c .page-exists f g hf))
-      (λ f′ o h′ a l. upd2-other (s .shared) f h j f′ h′ (λ x (y : h′ ≡ h). true≢false (sym lh ∙ ap (s .exists) (sym y) ∙ l)) ∙ c .strangers f′ o h′ (sym (same f′) ∙ a) l)
+      (λ f′ o h′ a l. upd2-other (s .shared) f h j f′ h′ (λ x (y : h′ ≡ h). true≢false (sym lh ∙ ap (s .exists) (sym y) ∙ l))
+      ∙ c .strangers f′ o h′ (sym (same f′) ∙ a) l)
 
   shared-kept : Kept (becomes s f (page g) (s .word) sh) k
-  shared-kept = becomes-kept s c f (page g) (page g) (s .word) sh hf (refl, refl, refl, refl) refl refl (λ t ne i. refl) k q (λ g′ v f′ r a.
+  shared-kept = becomes-kept s c f (page g) (page g) (s .word) sh hf (refl, refl, refl, refl) refl refl (λ t ne i. refl) k q
+      (λ g′ v f′ r a.
       elim [
         | inl m ↦ inl (keep g′ f′ r (now g′ v f′ r a) m)
         | inr m ↦ inr (same f′ ∙ m)
@@ -103,7 +112,8 @@ pub unshare-good : (s : State) (c : Core s) (k : Caches) (q : Kept s k) (g f h :
 unfolding unshare
 unshare-good s c k q g f h =
     checked 5 λ e1. checked 4 λ e2. checked 9 λ e3. checked 13 λ e4. checked 14 λ e5.
-    shared-good s c k q f g h 0 (page-of-is (s .kind f) g (and-true (is-page-of (s .kind f) g) (ltb 0 (s .shared f h)) e3 .0)) (and-true (s .exists g) (s .exists h) e1 .1)
+    shared-good s c k q f g h 0 (page-of-is (s .kind f) g (and-true (is-page-of (s .kind f) g) (ltb 0 (s .shared f h)) e3 .0))
+    (and-true (s .exists g) (s .exists h) e1 .1)
     (λ r a. inr (eqb-true (s .count f h) 0 e4, not-true (s .dirty h) e5))
 
 pub share-good : (s : State) (c : Core s) (k : Caches) (q : Kept s k) (g f h w : ℕ) → Good k (share s g f h w)
@@ -120,6 +130,9 @@ share-good s c k q g f h w =
         | inr y ↦ inl (rw x (shares-1 (s .shared f h) r a y))
         | inl y ↦
             let n : narrows s f h w ≡ true = rw (y, x) in
-            inr (eqb-true (s .count f h) 0 (or-right (narrows s f h w) (eqb (s .count f h) 0) e5 n), not-true (s .dirty h) (or-right (narrows s f h w) (not (s .dirty h)) e6 n))
+            inr (
+              eqb-true (s .count f h) 0 (or-right (narrows s f h w) (eqb (s .count f h) 0) e5 n),
+              not-true (s .dirty h) (or-right (narrows s f h w) (not (s .dirty h)) e6 n),
+            )
       ]
     ]

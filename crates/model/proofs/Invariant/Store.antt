@@ -18,7 +18,8 @@ module _ (s : State) (w : ℕ → ℕ → ℕ) (same : (t : ℕ) → tabled (s .
   same-in : (t : ℕ) (y : Frame-kind) → s .kind t ≡ y → tabled y ≡ true → (i : ℕ) → w t i ≡ s .word t i
   same-in t y e h i = same t (ap tabled e ∙ h) i
 
-  counted : (t i f g : ℕ) (y : Frame-kind) → s .kind t ≡ y → hit (s .kind t) (entry-at s t i) f g ≡ hit (s .kind t) (entry (s .first) (w t i)) f g
+  counted : (t i f g : ℕ) (y : Frame-kind) → s .kind t ≡ y →
+      hit (s .kind t) (entry-at s t i) f g ≡ hit (s .kind t) (entry (s .first) (w t i)) f g
   unfolding hit
   counted t i f g monitor e = rw e
   counted t i f g free e = rw e
@@ -65,7 +66,8 @@ module _ (s : State) (g f r o x : ℕ) (m : May s g f r ⊎ (s .kind f ≡ drain
       go (inl (inr z)) = other (page (z .0)) (z .1) refl
       go (inr z) = other (draining-page g) z refl
 
-  same : (t : ℕ) → tabled (s .kind t) ≡ true → (j : ℕ) → upd2 (s .word) f (o / 8) (put-byte (o % 8) (s .word f (o / 8)) x) t j ≡ s .word t j
+  same : (t : ℕ) → tabled (s .kind t) ≡ true → (j : ℕ) → upd2 (s .word) f (o / 8) (put-byte (o % 8) (s .word f (o / 8)) x) t j ≡
+      s .word t j
   same t h j = upd2-other (s .word) f (o / 8) (put-byte (o % 8) (s .word f (o / 8)) x) t j (λ (e : t ≡ f) z. no-table t h e)
 
   pub stored-core : Core s → Core (stored s f o x)

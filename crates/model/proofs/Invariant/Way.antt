@@ -19,19 +19,22 @@ root-serves x g v h l = let z : v / 512 / 512 / 512 / 512 ≡ 0 = omega arith in
 
 module _ (s : State) (c : Core s) where
   -- one step down
-  pub step-kind : (g h t v t′ : ℕ) → s .kind t ≡ table g (suc h) (upper (suc (suc h)) v) → entry-at s t (index (suc h) v) ≡ to-table t′ → s .kind t′ ≡ table g h (upper (suc h) v)
+  pub step-kind : (g h t v t′ : ℕ) → s .kind t ≡ table g (suc h) (upper (suc (suc h)) v) → entry-at s t (index (suc h) v) ≡ to-table t′ →
+      s .kind t′ ≡ table g h (upper (suc h) v)
   unfolding upper
   step-kind g h t v t′ a q =
       let b = rw q at (c .tables t g (suc h) (upper (suc (suc h)) v) a (index (suc h) v) (omega arith)) in
       rw (div-add-mod' (upper h v / 512) 512) at b
 
   -- where the way ends
-  pub descend-kind : (g h t v : ℕ) → s .kind t ≡ table g h (upper (suc h) v) → (u : ℕ) → descend s h t v ≡ some u → s .kind u ≡ table g 0 (v / 512)
+  pub descend-kind : (g h t v : ℕ) → s .kind t ≡ table g h (upper (suc h) v) → (u : ℕ) → descend s h t v ≡ some u →
+      s .kind u ≡ table g 0 (v / 512)
   unfolding descend upper
   descend-kind g zero t v a u e = cc
   descend-kind g (suc h) t v a u e = go (descend-kind g h) (entry-at s t (index (suc h) v)) refl
     where
-      go : ((t v : ℕ) → s .kind t ≡ table g h (upper (suc h) v) → (u : ℕ) → descend s h t v ≡ some u → s .kind u ≡ table g 0 (v / 512)) → (x : Entry) → entry-at s t (index (suc h) v) ≡ x →
+      go : ((t v : ℕ) → s .kind t ≡ table g h (upper (suc h) v) → (u : ℕ) → descend s h t v ≡ some u → s .kind u ≡ table g 0 (v / 512)) →
+          (x : Entry) → entry-at s t (index (suc h) v) ≡ x →
           s .kind u ≡ table g 0 (v / 512)
       go ih empty q = cc
       go ih (to-table t′) q = ih t′ v (step-kind g h t v t′ a q) u (cc)
@@ -43,10 +46,13 @@ module _ (s : State) (c : Core s) where
       (g h t v : ℕ) → s .kind t ≡ table g h (upper (suc h) v) → descend s′ h t v ≡ descend s h t v
   unfolding descend
   descend-same s′ same g zero t v a = refl
-  descend-same s′ same g (suc h) t v a = rw (same t g h (upper (suc (suc h)) v) a (index (suc h) v)) (go (descend-same s′ same g h) (entry-at s t (index (suc h) v)) refl)
+  descend-same s′ same g (suc h) t v a = rw (same t g h (upper (suc (suc h)) v) a (index (suc h) v))
+      (go (descend-same s′ same g h) (entry-at s t (index (suc h) v)) refl)
     where
-      go : ((t v : ℕ) → s .kind t ≡ table g h (upper (suc h) v) → descend s′ h t v ≡ descend s h t v) → (x : Entry) → entry-at s t (index (suc h) v) ≡ x →
-          into (entry-at s t (index (suc h) v)) none (λ t′. descend s′ h t′ v) ≡ into (entry-at s t (index (suc h) v)) none (λ t′. descend s h t′ v)
+      go : ((t v : ℕ) → s .kind t ≡ table g h (upper (suc h) v) → descend s′ h t v ≡ descend s h t v) → (x : Entry) →
+          entry-at s t (index (suc h) v) ≡ x →
+          into (entry-at s t (index (suc h) v)) none (λ t′. descend s′ h t′ v) ≡
+          into (entry-at s t (index (suc h) v)) none (λ t′. descend s h t′ v)
       go ih empty q = rw q
       go ih (to-table t′) q = rw q (ih t′ v (step-kind g h t v t′ a q))
       go ih (to-page f r) q = rw q
@@ -73,7 +79,8 @@ module _ (s : State) (c : Core s) where
   leaf-there g v e = rw e
 
 -- what translates does so in a last table
-pub translate-from : (s : State) (g v f r : ℕ) → translate s g v ≡ some (f, r) → (t : ℕ) × (leaf s g v ≡ some t) × (entry-at s t (v % 512) ≡ to-page f r)
+pub translate-from : (s : State) (g v f r : ℕ) → translate s g v ≡ some (f, r) →
+    (t : ℕ) × (leaf s g v ≡ some t) × (entry-at s t (v % 512) ≡ to-page f r)
 unfolding translate
 translate-from s g v f r e = go (leaf s g v) refl e
   where
@@ -83,7 +90,8 @@ translate-from s g v f r e = go (leaf s g v) refl e
     in-page t (to-page f′ r′) e = let q : _≡_ {A = Page} (f′, r′) (f, r) = cc in ap (λ (x : Page). to-page (x .0) (x .1)) q
     in-page t (other y) e = cc
 
-    go : (o : Option ℕ) → leaf s g v ≡ o → page-at s v o ≡ some (f, r) → (t : ℕ) × (leaf s g v ≡ some t) × (entry-at s t (v % 512) ≡ to-page f r)
+    go : (o : Option ℕ) → leaf s g v ≡ o → page-at s v o ≡ some (f, r) →
+        (t : ℕ) × (leaf s g v ≡ some t) × (entry-at s t (v % 512) ≡ to-page f r)
     go none q e = (0, cc, cc)
     go (some t) q e = (t, q, in-page t (entry-at s t (v % 512)) e)
 

@@ -74,30 +74,39 @@ Widens h s g t v pick = Wide (s .word) → Wide (grow h s g t v pick .state .wor
 
 linked-wide : (h : ℕ) (s : State) (g t v : ℕ) (pick : ℕ → ℕ) → Links h s g t v pick → Wide (s .word) → Wide (linked h s g t v pick .word)
 unfolding with-table
-linked-wide h s g t v pick x w = word-wide (upd (s .word) (pick 0) zeros) (frame-wide (s .word) w (pick 0)) t (index (suc h) v) (table-entry (s .first) (pick 0)) (table-wide (s .first) (pick 0) (in-room s (x .core) (pick 0) free (x .spare) refl))
+linked-wide h s g t v pick x w = word-wide (upd (s .word) (pick 0) zeros) (frame-wide (s .word) w (pick 0)) t (index (suc h) v)
+    (table-entry (s .first) (pick 0)) (table-wide (s .first) (pick 0) (in-room s (x .core) (pick 0) free (x .spare) refl))
 
-grow-wide : (h : ℕ) (s : State) → Core s → (g t v : ℕ) (pick : ℕ → ℕ) → Choice s pick → missing-from s h t v ≤ free-frames s → s .kind t ≡ table g h (upper (suc h) v) → Widens h s g t v pick
+grow-wide : (h : ℕ) (s : State) → Core s → (g t v : ℕ) (pick : ℕ → ℕ) → Choice s pick → missing-from s h t v ≤ free-frames s →
+    s .kind t ≡ table g h (upper (suc h) v) → Widens h s g t v pick
 unfolding grow
-grow-wide = grow-by Widens (λ s c g t v pick a w. w) (λ h s c g t v pick a t′ d e w. rw d (e w)) (λ h s g t v pick x e w. rw (x .was) (e (linked-wide h s g t v pick x w)))
+grow-wide = grow-by Widens (λ s c g t v pick a w. w) (λ h s c g t v pick a t′ d e w. rw d (e w))
+    (λ h s g t v pick x e w. rw (x .was) (e (linked-wide h s g t v pick x w)))
 
 module _ (s : State) (c : Core s) (w : Wide (s .word)) where
   answer-wide : (o : Operation) → Chooses s o → Then (λ s. Wide (s .word)) (answer s o)
-  unfolding answer create give take share unshare destroy invalidated map unmap with-root becomes with-mapping with-page without-page without-guest clean
+  unfolding answer create give take share unshare destroy invalidated map unmap with-root becomes with-mapping with-page without-page
+      without-guest clean
   answer-wide (Create g pick) ch = checked 1 λ e1. checked 2 λ e2. checked 3 λ e3. then-done (frame-wide (s .word) w (pick 0))
   answer-wide (Give f g) ch = checked 5 λ e1. checked 4 λ e2. checked 6 λ e3. then-done (frame-wide (s .word) w f)
   answer-wide (Take f g) ch = checked 5 λ e1. checked 4 λ e2. checked 9 λ e3. checked 13 λ e4. then-done w
-  answer-wide (Map f g a r pick) ch = checked 5 λ e1. checked 14 λ e2. checked 7 λ e3. checked 8 λ e4. checked 4 λ e5. checked 9 λ e6. checked 10 λ e7. checked 3 λ e8.
+  answer-wide (Map f g a r pick) ch = checked 5 λ e1. checked 14 λ e2. checked 7 λ e3. checked 8 λ e4. checked 4 λ e5. checked 9 λ e6.
+      checked 10 λ e7. checked 3 λ e8.
       let v = a / 4096 in
       let x = grow 3 s g (s .root g) v pick in
       let enough = leb-true (missing s g v) (free-frames s) e8 in
       let z = grown-for s c nothing-kept (nothing-ok s) g v pick e1 (address-low a e3) ch enough in
-      let tables : Wide (x .state .word) = grow-wide 3 s c g (s .root g) v pick ch enough (root-serves (s .kind (s .root g)) g v (c .roots g e1) (address-low a e3)) w in
-      then-done (word-wide (x .state .word) tables (x .last) (v % 512) (page-entry (x .state .first) f r) (page-wide (x .state .first) f r (may-room (x .state) (z .core) g f r (z .may g f r (may-is s g f r e6)))))
+      let tables : Wide (x .state .word) = grow-wide 3 s c g (s .root g) v pick ch enough
+      (root-serves (s .kind (s .root g)) g v (c .roots g e1) (address-low a e3)) w in
+      then-done (word-wide (x .state .word) tables (x .last) (v % 512) (page-entry (x .state .first) f r)
+      (page-wide (x .state .first) f r (may-room (x .state) (z .core) g f r (z .may g f r (may-is s g f r e6)))))
   answer-wide (Unmap a g) ch = checked 5 λ e1. checked 7 λ e2. checked 11 λ e3.
       let o = some-is (translate s g (a / 4096)) e3 in
       let at = translate-from s g (a / 4096) (o .0) (o .1) (o .2) in
-      rw (without-is s c g (a / 4096) (at .0) (o .0) (o .1) (at .1) (o .2)) (then-done (word-wide (s .word) w (at .0) (a / 4096 % 512) 0 (omega arith)))
-  answer-wide (Share g f h u) ch = checked 5 λ e1. checked 12 λ e2. checked 4 λ e3. checked 9 λ e4. checked 13 λ e5. checked 14 λ e6. then-done w
+      rw (without-is s c g (a / 4096) (at .0) (o .0) (o .1) (at .1) (o .2))
+      (then-done (word-wide (s .word) w (at .0) (a / 4096 % 512) 0 (omega arith)))
+  answer-wide (Share g f h u) ch = checked 5 λ e1. checked 12 λ e2. checked 4 λ e3. checked 9 λ e4. checked 13 λ e5. checked 14 λ e6.
+      then-done w
   answer-wide (Unshare g f h) ch = checked 5 λ e1. checked 4 λ e2. checked 9 λ e3. checked 13 λ e4. checked 14 λ e5. then-done w
   answer-wide (Destroy g) ch = checked 5 λ e1. checked 13 λ e2. then-done w
   answer-wide (Invalidated g) ch = checked 1 λ e1. then-done w
@@ -107,4 +116,5 @@ run-wide = run-keeps (λ s. Wide (s .word)) (λ s c w. answer-wide s c w) writte
   where
     written : Stores-keep (λ s. Wide (s .word))
     written m h w g f o x n b a = unfold stored in
-        word-wide (m .state .word) w f (o / 8) (put-byte (o % 8) (m .state .word f (o / 8)) x) (byte-wide (o % 8) (m .state .word f (o / 8)) x (omega arith) (w f (o / 8)) b)
+        word-wide (m .state .word) w f (o / 8) (put-byte (o % 8) (m .state .word f (o / 8)) x)
+        (byte-wide (o % 8) (m .state .word f (o / 8)) x (omega arith) (w f (o / 8)) b)

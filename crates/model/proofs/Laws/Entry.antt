@@ -10,7 +10,8 @@ use Rattle.model.specs.State.{page-count}
 use Rattle.model.specs.Entry.{Entry, empty, to-table, to-page, other, entry, table-entry, page-entry, rights-of}
 use Rattle.model.specs.Cache.{invalid, next, output, descriptor}
 
--- What the bits of a page's entry n say. F the number of the frame in physical memory, r and w 1 if reading and writing, x 1 if no executing
+-- What the bits of a page's entry n say. F the number of the frame in physical memory, r and w 1 if reading and writing, x 1 if no
+-- executing
 pub record Bits (n F r w x : ℕ) : Type 0 where
   pub three : n % 4 ≡ 3
   pub page : n / 4096 % 0x1000000000 ≡ F
@@ -21,7 +22,15 @@ pub record Bits (n F r w x : ℕ) : Type 0 where
   pub never : n / 0x40000000000000 % 2 ≡ x
 
 bits : (F r w x : ℕ) → F < page-count → r < 2 → w < 2 → x < 2 → Bits (F * 4096 + 0x73f + 64 * r + 128 * w + 0x40000000000000 * x) F r w x
-bits F r w x hF hr hw hx = record { three = omega arith; page = omega arith; low = omega arith; flag = omega arith; read = omega arith; write = omega arith; never = omega arith }
+bits F r w x hF hr hw hx = record {
+  three = omega arith;
+  page = omega arith;
+  low = omega arith;
+  flag = omega arith;
+  read = omega arith;
+  write = omega arith;
+  never = omega arith;
+}
 
 pub page-bits : (first f r : ℕ) → first + f < page-count → Bits (page-entry first f r) (first + f) (r % 2) (r / 2 % 2) (1 - r / 4 % 2)
 unfolding page-entry
@@ -79,7 +88,12 @@ module _ (first t : ℕ) (l : first + t < page-count) where
   unfolding entry
   entry-table =
       let back : first + t - first ≡ t = omega arith in
-      rw (table-page, back, ne-eqb (table-entry first t) 0 (λ e. let z = table-tail in omega arith), eq-eqb (table-entry first t) (table-entry first t) refl)
+      rw (
+        table-page,
+        back,
+        ne-eqb (table-entry first t) 0 (λ e. let z = table-tail in omega arith),
+        eq-eqb (table-entry first t) (table-entry first t) refl,
+      )
 
   pub descriptor-table : (h : ℕ) → descriptor (suc h) (table-entry first t) ≡ next (first + t)
   unfolding descriptor
@@ -112,7 +126,15 @@ module _ (first f r : ℕ) (l : first + f < page-count) (hr : r < 8) where
   entry-page =
       let back : first + f - first ≡ f = omega arith in
       let z = page-tail in
-      rw (page-bits first f r l .page, back, page-rights, ne-eqb (page-entry first f r) 0 (λ e. omega arith), ne-eqb (page-entry first f r) (table-entry first f) (λ (e : page-entry first f r ≡ table-entry first f). let y = table-tail first f l in omega arith), eq-eqb (page-entry first f r) (page-entry first f r) refl)
+      rw (
+        page-bits first f r l .page,
+        back,
+        page-rights,
+        ne-eqb (page-entry first f r) 0 (λ e. omega arith),
+        ne-eqb (page-entry first f r) (table-entry first f)
+            (λ (e : page-entry first f r ≡ table-entry first f). let y = table-tail first f l in omega arith),
+        eq-eqb (page-entry first f r) (page-entry first f r) refl,
+      )
 
   pub descriptor-page : descriptor 0 (page-entry first f r) ≡ output (first + f) r
   unfolding descriptor

@@ -1,4 +1,5 @@
--- Laws of the way through the tables, for the code that goes it level by level and looks at numbers: a word that is not 0 leads to a table, or in a last table to a page.
+-- Laws of the way through the tables, for the code that goes it level by level and looks at numbers: a word that is not 0 leads to a
+-- table, or in a last table to a page.
 use mathlib.Core.Path.{_≡_, refl, ap, _∙_}
 use mathlib.Core.Bool.{true}
 use mathlib.Core.Logic.{inl, inr}
@@ -37,7 +38,8 @@ module _ (s : State) (h t v : ℕ) where
   unfolding missing-from
   missing-stop e = rw e
 
-  pub grow-down : (g : ℕ) (pick : ℕ → ℕ) (t′ : ℕ) → entry-at s t (index (suc h) v) ≡ to-table t′ → grow (suc h) s g t v pick ≡ grow h s g t′ v pick
+  pub grow-down : (g : ℕ) (pick : ℕ → ℕ) (t′ : ℕ) → entry-at s t (index (suc h) v) ≡ to-table t′ →
+      grow (suc h) s g t v pick ≡ grow h s g t′ v pick
   unfolding grow
   grow-down g pick t′ e = rw e
 
@@ -68,14 +70,17 @@ pub record Shows (s : State) (g x : ℕ) (e : Entry) : Type 0 where
   pub number : x / 4096 % 0x1000000000 ≡ s .first + frame
 
 module _ (s : State) (c : Core s) (g t : ℕ) where
-  pub leads : (h v : ℕ) → At s g (suc h) v t → (s .word t (index (suc h) v) ≡ 0 → ⊥) → Leads s g h (upper (suc h) v) (s .word t (index (suc h) v)) (entry-at s t (index (suc h) v))
+  pub leads : (h v : ℕ) → At s g (suc h) v t → (s .word t (index (suc h) v) ≡ 0 → ⊥) →
+      Leads s g h (upper (suc h) v) (s .word t (index (suc h) v)) (entry-at s t (index (suc h) v))
   unfolding upper
-  leads h v a ne = go (entry-at s t (index (suc h) v)) refl (c .tables t g (suc h) (upper (suc (suc h)) v) a (index (suc h) v) (omega arith))
+  leads h v a ne = go (entry-at s t (index (suc h) v)) refl (c .tables t g (suc h) (upper (suc (suc h)) v) a (index (suc h) v)
+      (omega arith))
     where
       x : ℕ
       x = s .word t (index (suc h) v)
 
-      go : (e : Entry) → entry-at s t (index (suc h) v) ≡ e → Fits (s .kind) (May s) g (suc h) (upper (suc (suc h)) v * 512 + index (suc h) v) e → Leads s g h (upper (suc h) v) x e
+      go : (e : Entry) → entry-at s t (index (suc h) v) ≡ e →
+          Fits (s .kind) (May s) g (suc h) (upper (suc (suc h)) v * 512 + index (suc h) v) e → Leads s g h (upper (suc h) v) x e
       go empty q k = absurd (ne (is-empty (s .first) x q))
       go (to-table t′) q k =
           let k′ = rw (div-add-mod' (upper h v / 512) 512) at k in
@@ -103,7 +108,8 @@ module _ (s : State) (c : Core s) (g t : ℕ) where
         reads = refl;
         may = k;
         below = size-of f r k;
-        number = ap (λ (y : ℕ). y / 4096 % 0x1000000000) (is-to-page (s .first) x f r q) ∙ page-bits (s .first) f r (may-room s c g f r k) .page;
+        number = ap (λ (y : ℕ). y / 4096 % 0x1000000000) (is-to-page (s .first) x f r q)
+            ∙ page-bits (s .first) f r (may-room s c g f r k) .page;
       }
       go (other y) q k = absurd k
 

@@ -1,4 +1,5 @@
--- What holds of the ledger and the tables (Core), and of what the processor has kept (Kept). Every rule is about one entry, frame or space.
+-- What holds of the ledger and the tables (Core), and of what the processor has kept (Kept). Every rule is about one entry, frame or
+-- space.
 use mathlib.Core.Path.{_≡_, sym, ap, _∙_}
 use mathlib.Core.Bool.{true, false}
 use mathlib.Core.Logic.{_⊎_, inl, inr}

@@ -21,7 +21,8 @@ pub record Agrees (g : ℕ) (kind : ℕ → Frame-kind) (shared a b : ℕ → �
   pub page-count : (f : ℕ) → reads g (kind f) (shared f g) ≡ true → Same-frame (a f) (b f)
 
 -- one change in both: what can be seen of a word at a place stays the same
-upd2-both : {A : Type 0} (B : ℕ → A) (a b : ℕ → ℕ → ℕ) (t i x u j : ℕ) → B (a u j) ≡ B (b u j) → B (upd2 a t i x u j) ≡ B (upd2 b t i x u j)
+upd2-both : {A : Type 0} (B : ℕ → A) (a b : ℕ → ℕ → ℕ) (t i x u j : ℕ) → B (a u j) ≡ B (b u j) →
+    B (upd2 a t i x u j) ≡ B (upd2 b t i x u j)
 upd2-both B a b t i x u j e = elim (eq? u t) [
   | inl p ↦ elim (eq? j i) [
     | inl q ↦ rw (upd2-at a t i x u j p q, upd2-at b t i x u j p q)
@@ -30,7 +31,8 @@ upd2-both B a b t i x u j e = elim (eq? u t) [
   | inr p ↦ rw (upd2-other a t i x u j (λ y z. p y), upd2-other b t i x u j (λ y z. p y)) e
 ]
 
-zeros-both : {A : Type 0} (B : ℕ → A) (a b : ℕ → ℕ → ℕ) (t u j : ℕ) → ((u ≡ t → ⊥) → B (a u j) ≡ B (b u j)) → B (upd a t zeros u j) ≡ B (upd b t zeros u j)
+zeros-both : {A : Type 0} (B : ℕ → A) (a b : ℕ → ℕ → ℕ) (t u j : ℕ) → ((u ≡ t → ⊥) → B (a u j) ≡ B (b u j)) →
+    B (upd a t zeros u j) ≡ B (upd b t zeros u j)
 zeros-both B a b t u j e = elim (eq? u t) [
   | inl p ↦ rw (upd-at a t zeros u p, upd-at b t zeros u p)
   | inr p ↦ rw (upd-other a t zeros u p, upd-other b t zeros u p) (e p)
@@ -45,7 +47,8 @@ module _ (g : ℕ) (kind : ℕ → Frame-kind) (shared a b : ℕ → ℕ → ℕ
   }
 
   -- frame t is cleared in both, and becomes anything
-  pub agrees-zero : (t : ℕ) (kind′ : ℕ → Frame-kind) (shared′ : ℕ → ℕ → ℕ) → ((u : ℕ) → (u ≡ t → ⊥) → kind′ u ≡ kind u) → ((u : ℕ) → (u ≡ t → ⊥) → shared′ u g ≡ shared u g) →
+  pub agrees-zero : (t : ℕ) (kind′ : ℕ → Frame-kind) (shared′ : ℕ → ℕ → ℕ) → ((u : ℕ) → (u ≡ t → ⊥) → kind′ u ≡ kind u) →
+      ((u : ℕ) → (u ≡ t → ⊥) → shared′ u g ≡ shared u g) →
       Agrees g kind′ shared′ (upd a t zeros) (upd b t zeros)
   agrees-zero t kind′ shared′ ke se = record {
     tables = λ u e j. zeros-both (λ y. y) b a t u j (λ ne. m .tables u (rw (ke u ne) at e) j);
@@ -54,7 +57,8 @@ module _ (g : ℕ) (kind : ℕ → Frame-kind) (shared a b : ℕ → ℕ → ℕ
 
   -- no more tables, and nothing more is shown but what is the same in both
   pub agrees-less : (kind′ : ℕ → Frame-kind) (shared′ : ℕ → ℕ → ℕ) → ((t : ℕ) → tabled (kind′ t) ≡ true → tabled (kind t) ≡ true) →
-      ((f : ℕ) → reads g (kind′ f) (shared′ f g) ≡ true → (reads g (kind f) (shared f g) ≡ true) ⊎ Same-frame (a f) (b f)) → Agrees g kind′ shared′ a b
+      ((f : ℕ) → reads g (kind′ f) (shared′ f g) ≡ true → (reads g (kind f) (shared f g) ≡ true) ⊎ Same-frame (a f) (b f)) →
+      Agrees g kind′ shared′ a b
   agrees-less kind′ shared′ ts ps = record {
     tables = λ t e. m .tables t (ts t e);
     page-count = λ f e. elim (ps f e) [ inl x ↦ m .page-count f x | inr x ↦ x ];
@@ -66,26 +70,44 @@ module _ (g : ℕ) (kind : ℕ → Frame-kind) (shared a b : ℕ → ℕ → ℕ
   agrees-stored f o x lx no-table = record {
     tables = λ t e i.
         let ne : t ≡ f → ⊥ = λ (p : t ≡ f). true≢false (sym e ∙ ap (λ (y : ℕ). tabled (kind y)) p ∙ no-table) in
-        rw (upd2-other b f (o / 8) (put-byte (o % 8) (b f (o / 8)) x) t i (λ p q. ne p), upd2-other a f (o / 8) (put-byte (o % 8) (a f (o / 8)) x) t i (λ p q. ne p)) (m .tables t e i);
+        rw (
+          upd2-other b f (o / 8) (put-byte (o % 8) (b f (o / 8)) x) t i (λ p q. ne p),
+          upd2-other a f (o / 8) (put-byte (o % 8) (a f (o / 8)) x) t i (λ p q. ne p),
+        ) (m .tables t e i);
     page-count = λ u e j k l n. elim (eq? u f) [
-      | inr p ↦ rw (upd2-other a f (o / 8) (put-byte (o % 8) (a f (o / 8)) x) u j (λ y z. p y), upd2-other b f (o / 8) (put-byte (o % 8) (b f (o / 8)) x) u j (λ y z. p y)) (m .page-count u e j k l n)
+      | inr p ↦ rw (
+        upd2-other a f (o / 8) (put-byte (o % 8) (a f (o / 8)) x) u j (λ y z. p y),
+        upd2-other b f (o / 8) (put-byte (o % 8) (b f (o / 8)) x) u j (λ y z. p y),
+      ) (m .page-count u e j k l n)
       | inl p ↦ elim (eq? j (o / 8)) [
-        | inr q ↦ rw (upd2-other a f (o / 8) (put-byte (o % 8) (a f (o / 8)) x) u j (λ y z. q z), upd2-other b f (o / 8) (put-byte (o % 8) (b f (o / 8)) x) u j (λ y z. q z)) (m .page-count u e j k l n)
-        | inl q ↦ rw (upd2-at a f (o / 8) (put-byte (o % 8) (a f (o / 8)) x) u j p q, upd2-at b f (o / 8) (put-byte (o % 8) (b f (o / 8)) x) u j p q) (elim (eq? k (o % 8)) [
+        | inr q ↦ rw (
+          upd2-other a f (o / 8) (put-byte (o % 8) (a f (o / 8)) x) u j (λ y z. q z),
+          upd2-other b f (o / 8) (put-byte (o % 8) (b f (o / 8)) x) u j (λ y z. q z),
+        ) (m .page-count u e j k l n)
+        | inl q ↦ rw (
+          upd2-at a f (o / 8) (put-byte (o % 8) (a f (o / 8)) x) u j p q,
+          upd2-at b f (o / 8) (put-byte (o % 8) (b f (o / 8)) x) u j p q,
+        ) (elim (eq? k (o % 8)) [
           | inl d ↦ rw (d, byte-put-same (o % 8) (a f (o / 8)) x lx, byte-put-same (o % 8) (b f (o / 8)) x lx)
-          | inr d ↦ rw (byte-put-other k (o % 8) (a f (o / 8)) x lx d, byte-put-other k (o % 8) (b f (o / 8)) x lx d) (m .page-count f (rw p at e) (o / 8) k (rw q at l) n)
+          | inr d ↦ rw (byte-put-other k (o % 8) (a f (o / 8)) x lx d, byte-put-other k (o % 8) (b f (o / 8)) x lx d)
+              (m .page-count f (rw p at e) (o / 8) k (rw q at l) n)
         ])
       ]
     ];
   }
 
   -- words of one frame change on one side, which holds no table and is not shown
-  pub agrees-apart : (a′ : ℕ → ℕ → ℕ) (f : ℕ) → ((u i : ℕ) → (u ≡ f → ⊥) → a′ u i ≡ a u i) → tabled (kind f) ≡ false → reads g (kind f) (shared f g) ≡ false → Agrees g kind shared a′ b
+  pub agrees-apart : (a′ : ℕ → ℕ → ℕ) (f : ℕ) → ((u i : ℕ) → (u ≡ f → ⊥) → a′ u i ≡ a u i) → tabled (kind f) ≡ false →
+      reads g (kind f) (shared f g) ≡ false → Agrees g kind shared a′ b
   agrees-apart a′ f same no-table hid = record {
     tables = λ t e i. m .tables t e i ∙ sym (same t i (λ (p : t ≡ f). true≢false (sym e ∙ ap (λ (y : ℕ). tabled (kind y)) p ∙ no-table)));
-    page-count = λ u e j k l n. ap (byte-of k) (same u j (λ (p : u ≡ f). true≢false (sym e ∙ ap (λ (y : ℕ). reads g (kind y) (shared y g)) p ∙ hid))) ∙ m .page-count u e j k l n;
+    page-count = λ u e j k l n. ap (byte-of k) (same u j (λ (p : u ≡ f). true≢false
+        (sym e ∙ ap (λ (y : ℕ). reads g (kind y) (shared y g)) p ∙ hid))) ∙ m .page-count u e j k l n;
   }
 
 -- from the other side
 pub agrees-turned : (g : ℕ) (kind : ℕ → Frame-kind) (shared a b : ℕ → ℕ → ℕ) → Agrees g kind shared a b → Agrees g kind shared b a
-agrees-turned g kind shared a b m = record { tables = λ t e i. sym (m .tables t e i); page-count = λ f e j k l n. sym (m .page-count f e j k l n) }
+agrees-turned g kind shared a b m = record {
+  tables = λ t e i. sym (m .tables t e i);
+  page-count = λ f e j k l n. sym (m .page-count f e j k l n);
+}

@@ -1,4 +1,5 @@
--- Two machines that guest g cannot tell apart: the same ledger, the same words in every table, the same kept translations, the same bytes in all that g may read.
+-- Two machines that guest g cannot tell apart: the same ledger, the same words in every table, the same kept translations, the same
+-- bytes in all that g may read.
 -- Steps that go together keep it.
 use mathlib.Core.Path.{_≡_, refl, sym, ap, _∙_}
 use mathlib.Core.Bool.{Bool, true, false, _&&_, _||_}
@@ -36,8 +37,10 @@ pub record Alike (g : ℕ) (y z : Machine) : Type 0 where
   pub caches : Same-kept (y .caches) (z .caches)
 
 -- what the processor finds in tables with the same words
-module _ (s : State) (k : Caches) (c : Core s) (q : Kept s k) (w : ℕ → ℕ → ℕ) (k′ : Caches) (ws : (t : ℕ) → tabled (s .kind t) ≡ true → (i : ℕ) → w t i ≡ s .word t i)
-    (kt : (g h p x : ℕ) → k .table-kept g h p x → k′ .table-kept g h p x) (kp : (g v x r : ℕ) → k .page-kept g v x r → k′ .page-kept g v x r) (g : ℕ) where
+module _ (s : State) (k : Caches) (c : Core s) (q : Kept s k) (w : ℕ → ℕ → ℕ) (k′ : Caches)
+    (ws : (t : ℕ) → tabled (s .kind t) ≡ true → (i : ℕ) → w t i ≡ s .word t i)
+    (kt : (g h p x : ℕ) → k .table-kept g h p x → k′ .table-kept g h p x)
+    (kp : (g v x r : ℕ) → k .page-kept g v x r → k′ .page-kept g v x r) (g : ℕ) where
   is-tabled : {h p x : ℕ} → Table s k g h p x → (t : ℕ) → x ≡ s .first + t → tabled (s .kind t) ≡ true
   is-tabled {h} {p} {x} a t e =
       let b = table-found s k c q g a in
@@ -48,27 +51,33 @@ module _ (s : State) (k : Caches) (c : Core s) (q : Kept s k) (w : ℕ → ℕ �
   table-echo : {h p x : ℕ} → Table s k g h p x → Table (reworded s w) k′ g h p x
   table-echo (from-root l e) = from-root l e
   table-echo (from-kept {h} {p} {x} a) = from-kept (kt g h p x a)
-  table-echo (from-word {h} {p} {x} {y} a t i e l m d) = from-word (table-echo a) t i e l m (ap (descriptor (suc h)) (ws t (is-tabled a t e) i) ∙ d)
+  table-echo (from-word {h} {p} {x} {y} a t i e l m d) = from-word (table-echo a) t i e l m
+      (ap (descriptor (suc h)) (ws t (is-tabled a t e) i) ∙ d)
 
   pub page-echo : {v x r : ℕ} → Translation s k g v x r → Translation (reworded s w) k′ g v x r
   page-echo {v} (kept {x} {r} a) = kept (kp g v x r a)
-  page-echo {v} (read-off {x} {r} h y t p a e l d o) = read-off h y t p (table-echo a) e l (ap (descriptor h) (ws t (is-tabled a t e) (index h v)) ∙ d) o
+  page-echo {v} (read-off {x} {r} h y t p a e l d o) = read-off h y t p (table-echo a) e l
+      (ap (descriptor h) (ws t (is-tabled a t e) (index h v)) ∙ d) o
 
-reworded-kept : (g : ℕ) (s : State) (w : ℕ → ℕ → ℕ) (k k′ : Caches) → Core s → Kept s k → Core (reworded s w) → Kept (reworded s w) k′ → Agrees g (s .kind) (s .shared) (s .word) w →
+reworded-kept : (g : ℕ) (s : State) (w : ℕ → ℕ → ℕ) (k k′ : Caches) → Core s → Kept s k → Core (reworded s w) → Kept (reworded s w) k′ →
+    Agrees g (s .kind) (s .shared) (s .word) w →
     Same-kept k k′ → Same-kept (grown s k) (grown (reworded s w) k′)
 unfolding grown
 reworded-kept g s w k k′ c q c′ q′ m x = record {
   tables = λ g h p y. (
     table-echo s k c q w k′ (m .tables) (λ g h p y. x .tables g h p y .0) (λ g v y r. x .page-count g v y r .0) g,
-    table-echo (reworded s w) k′ c′ q′ (s .word) k (λ t e i. sym (m .tables t e i)) (λ g h p y. x .tables g h p y .1) (λ g v y r. x .page-count g v y r .1) g,
+    table-echo (reworded s w) k′ c′ q′ (s .word) k (λ t e i. sym (m .tables t e i)) (λ g h p y. x .tables g h p y .1)
+        (λ g v y r. x .page-count g v y r .1) g,
   );
   page-count = λ g v y r. (
     page-echo s k c q w k′ (m .tables) (λ g h p y. x .tables g h p y .0) (λ g v y r. x .page-count g v y r .0) g,
-    page-echo (reworded s w) k′ c′ q′ (s .word) k (λ t e i. sym (m .tables t e i)) (λ g h p y. x .tables g h p y .1) (λ g v y r. x .page-count g v y r .1) g,
+    page-echo (reworded s w) k′ c′ q′ (s .word) k (λ t e i. sym (m .tables t e i)) (λ g h p y. x .tables g h p y .1)
+        (λ g v y r. x .page-count g v y r .1) g,
   );
 }
 
-pub grown-same : (g : ℕ) (s s′ : State) (k k′ : Caches) → Core s → Kept s k → Core s′ → Kept s′ k′ → Echo g s s′ → Same-kept k k′ → Same-kept (grown s k) (grown s′ k′)
+pub grown-same : (g : ℕ) (s s′ : State) (k k′ : Caches) → Core s → Kept s k → Core s′ → Kept s′ k′ → Echo g s s′ → Same-kept k k′ →
+    Same-kept (grown s k) (grown s′ k′)
 grown-same g s s′ k k′ c q c′ q′ e x =
     let e1 = e .1 in
     rw e1 (reworded-kept g s (e .0) k k′ c q (rw e1 at c′) (rw e1 at q′) (e .2) x)
@@ -93,7 +102,8 @@ keeps-same k k′ (Destroy g) x = x
 keeps-same k k′ (Invalidated g) x = forget-same k k′ g x
 
 -- an operation
-settled-alike : (g : ℕ) (y z : Machine) → Holds y → Holds z → Alike g y z → (k k′ : Caches) → Same-kept k k′ → {x x′ : Out} → Both (Echo g) x x′ → Good k x → Good k′ x′ → Alike g (settle y k x) (settle z k′ x′)
+settled-alike : (g : ℕ) (y z : Machine) → Holds y → Holds z → Alike g y z → (k k′ : Caches) → Same-kept k k′ → {x x′ : Out} →
+    Both (Echo g) x x′ → Good k x → Good k′ x′ → Alike g (settle y k x) (settle z k′ x′)
 unfolding settle
 settled-alike g y z hy hz a k k′ q both-refuse u u′ = record {
   state = a .state;
@@ -105,12 +115,15 @@ settled-alike g y z hy hz a k k′ q (both-done {s} {s′} e) (then-done u) (the
 }
 
 module _ (g : ℕ) (y z : Machine) (hy : Holds y) (hz : Holds z) (a : Alike g y z) where
-  called-alike : (o : Operation) → Chooses (y .state) o → Chooses (z .state) o → ((f : ℕ) → Shows o g f → answered (answer (y .state) o) ≡ true → Same-bytes (y .state) (z .state) f f) → Alike g (call y o) (call z o)
+  called-alike : (o : Operation) → Chooses (y .state) o → Chooses (z .state) o →
+      ((f : ℕ) → Shows o g f → answered (answer (y .state) o) ≡ true → Same-bytes (y .state) (z .state) f f) →
+      Alike g (call y o) (call z o)
   unfolding call
   called-alike o ch ch′ x =
       let e = a .state in
       let e1 = e .1 in
-      let b = answer-echo g (y .state) (hy .core) (e .0) (e .2) o ch (λ f n d. rw (ap (λ (s : State). s .word f) e1) at (frame-bytes (y .state) (z .state) f f (x f n d))) in
+      let b = answer-echo g (y .state) (hy .core) (e .0) (e .2) o ch
+      (λ f n d. rw (ap (λ (s : State). s .word f) e1) at (frame-bytes (y .state) (z .state) f f (x f n d))) in
       settled-alike g y z hy hz a (keeps (y .caches) o) (keeps (z .caches) o) (keeps-same (y .caches) (z .caches) o (a .caches)) (rw e1 b)
       (answer-good (y .state) (hy .core) (y .caches) (hy .kept) o ch) (answer-good (z .state) (hz .core) (z .caches) (hz .kept) o ch′)
 
@@ -120,16 +133,22 @@ module _ (g : ℕ) (y z : Machine) (hy : Holds y) (hz : Holds z) (a : Alike g y 
   both-stored f o x lx n =
       let e = a .state in
       let e1 = e .1 in
-      rw e1 (upd2 (e .0) f (o / 8) (put-byte (o % 8) (e .0 f (o / 8)) x), refl, agrees-stored g (y .state .kind) (y .state .shared) (y .state .word) (e .0) (e .2) f o x lx n)
+      rw e1 (
+        upd2 (e .0) f (o / 8) (put-byte (o % 8) (e .0 f (o / 8)) x),
+        refl,
+        agrees-stored g (y .state .kind) (y .state .shared) (y .state .word) (e .0) (e .2) f o x lx n,
+      )
 
   -- a store in one of them, to a frame that is not shown
-  first-stored : (f o x : ℕ) → tabled (y .state .kind f) ≡ false → shown (y .state) g f ≡ false → Echo g (stored (y .state) f o x) (z .state)
+  first-stored : (f o x : ℕ) → tabled (y .state .kind f) ≡ false → shown (y .state) g f ≡ false →
+      Echo g (stored (y .state) f o x) (z .state)
   unfolding stored
   first-stored f o x n hid =
       let e = a .state in (
         e .0,
         e .1,
-        agrees-apart g (y .state .kind) (y .state .shared) (y .state .word) (e .0) (e .2) (upd2 (y .state .word) f (o / 8) (put-byte (o % 8) (y .state .word f (o / 8)) x)) f
+        agrees-apart g (y .state .kind) (y .state .shared) (y .state .word) (e .0) (e .2)
+            (upd2 (y .state .word) f (o / 8) (put-byte (o % 8) (y .state .word f (o / 8)) x)) f
             (λ u i ne. upd2-other (y .state .word) f (o / 8) (put-byte (o % 8) (y .state .word f (o / 8)) x) u i (λ p q. ne p)) n hid,
       )
 
@@ -139,14 +158,18 @@ allowed-page s h f w (inr (inl x)) = ap tabled (x .1)
 allowed-page s h f w (inr (inr x)) = ap tabled x
 
 pub stores-page : {m : Machine} → Holds m → {h f o x : ℕ} → Stores m h f o x → tabled (m .state .kind f) ≡ false
-stores-page {m} k {h} {f} {o} {x} r = let l = r .in-frame in allowed-page (m .state) h f writing (frame-allowed k h writing ((m .state .first + f) * 4096 + o) f (omega arith) (r .reaches))
+stores-page {m} k {h} {f} {o} {x} r = let l = r .in-frame in allowed-page (m .state) h f writing
+    (frame-allowed k h writing ((m .state .first + f) * 4096 + o) f (omega arith) (r .reaches))
 
 pub stores-step : {m : Machine} {h f o x : ℕ} → Stores m h f o x → Step m (write m f o x)
 stores-step {m} {h} {f} {o} {x} r = stores h f o x (r .lives) (r .in-ram) (r .in-frame) (r .is-byte) (r .reaches)
 
 -- from the other side
 turned-kept : (k k′ : Caches) → Same-kept k k′ → Same-kept k′ k
-turned-kept k k′ x = record { tables = λ g h p y. (x .tables g h p y .1, x .tables g h p y .0); page-count = λ g v y r. (x .page-count g v y r .1, x .page-count g v y r .0) }
+turned-kept k k′ x = record {
+  tables = λ g h p y. (x .tables g h p y .1, x .tables g h p y .0);
+  page-count = λ g v y r. (x .page-count g v y r .1, x .page-count g v y r .0);
+}
 
 turned-echo : (g : ℕ) (s s′ : State) → Echo g s s′ → Echo g s′ s
 turned-echo g s s′ e =
@@ -154,7 +177,10 @@ turned-echo g s s′ e =
     rw e1 (s .word, refl, agrees-turned g (s .kind) (s .shared) (s .word) (e .0) (e .2))
 
 pub turned : {g : ℕ} {y z : Machine} → Alike g y z → Alike g z y
-turned {g} {y} {z} a = record { state = turned-echo g (y .state) (z .state) (a .state); caches = turned-kept (y .caches) (z .caches) (a .caches) }
+turned {g} {y} {z} a = record {
+  state = turned-echo g (y .state) (z .state) (a .state);
+  caches = turned-kept (y .caches) (z .caches) (a .caches);
+}
 
 -- The processor has kept all that it can find: so it is after every step.
 pub record Closed (s : State) (k : Caches) : Type 0 where
@@ -203,22 +229,29 @@ kept-below s k q = record {
   page-now = λ g v x r d a. q .page-now g v x r d (kept a);
 }
 
-pub written : {m : Machine} → Holds m → {h f o x : ℕ} → Stores m h f o x → Core (stored (m .state) f o x) × Kept (stored (m .state) f o x) (m .caches)
+pub written : {m : Machine} → Holds m → {h f o x : ℕ} → Stores m h f o x →
+    Core (stored (m .state) f o x) × Kept (stored (m .state) f o x) (m .caches)
 written {m} k {h} {f} {o} {x} r = go (step-holds (stores-step r) k)
   where
     go : Holds (write m f o x) → Core (stored (m .state) f o x) × Kept (stored (m .state) f o x) (m .caches)
     go n = unfold write in (n .core, kept-below (stored (m .state) f o x) (m .caches) (n .kept))
 
 -- stores
-written-alike : (g : ℕ) (y z : Machine) (hy : Holds y) (hz : Holds z) (a : Alike g y z) (h f o x : ℕ) → Stores y h f o x → Stores z h f o x → Alike g (write y f o x) (write z f o x)
+written-alike : (g : ℕ) (y z : Machine) (hy : Holds y) (hz : Holds z) (a : Alike g y z) (h f o x : ℕ) → Stores y h f o x →
+    Stores z h f o x → Alike g (write y f o x) (write z f o x)
 unfolding write
 written-alike g y z hy hz a h f o x r r′ =
     let u = written hy r in
     let u′ = written hz r′ in
     let e = both-stored g y z hy hz a f o x (r .is-byte) (stores-page hy r) in
-    record { state = e; caches = grown-same g (stored (y .state) f o x) (stored (z .state) f o x) (y .caches) (z .caches) (u .0) (u .1) (u′ .0) (u′ .1) e (a .caches) }
+    record {
+      state = e;
+      caches = grown-same g (stored (y .state) f o x) (stored (z .state) f o x) (y .caches) (z .caches) (u .0) (u .1)
+          (u′ .0) (u′ .1) e (a .caches);
+    }
 
-written-apart : (g : ℕ) (y z : Machine) (hy : Holds y) (hz : Holds z) → Closed (z .state) (z .caches) → (a : Alike g y z) (h f o x : ℕ) → Stores y h f o x → shown (y .state) g f ≡ false → Alike g (write y f o x) z
+written-apart : (g : ℕ) (y z : Machine) (hy : Holds y) (hz : Holds z) → Closed (z .state) (z .caches) → (a : Alike g y z) (h f o x : ℕ) →
+    Stores y h f o x → shown (y .state) g f ≡ false → Alike g (write y f o x) z
 unfolding write
 written-apart g y z hy hz cl a h f o x r hid =
     let u = written hy r in
@@ -287,8 +320,16 @@ started-echo g b n k w w′ = (
   w′,
   refl,
   record {
-    tables = λ t e. elim (started-kind n k t) [ inl x ↦ let z : false ≡ true = rw x at e in absurd (never z) | inr x ↦ let z : false ≡ true = rw x at e in absurd (never z) ];
-    page-count = λ f e. elim (started-kind n k f) [ inl x ↦ let z : false ≡ true = rw x at e in absurd (never z) | inr x ↦ let z : false ≡ true = rw x at e in absurd (never z) ];
+    tables = λ t e. elim (started-kind n k t) [
+      | inl x ↦ let z : false ≡ true = rw x at e in absurd (never z)
+      | inr x ↦ let z : false ≡
+          true = rw x at e in absurd (never z)
+    ];
+    page-count = λ f e. elim (started-kind n k f) [
+      | inl x ↦ let z : false ≡ true = rw x at e in absurd (never z)
+      | inr x ↦ let z : false ≡
+          true = rw x at e in absurd (never z)
+    ];
   },
 )
   where
@@ -308,7 +349,9 @@ nothing-found s e = record { tables = λ g h p x a. none g a; page-count = λ g 
     none-page g v (read-off h y t p a q l d o) = none g a
 
 pub set-up-closed : {m : Machine} → SetUp m → Closed (m .state) (m .caches)
-set-up-closed {m} x = rw (x .fresh) (nothing-found (m .state) (λ g. ap (λ (s : State). s .exists g) (started-is true (x .b) (x .n) (x .k) (x .word) (m .state) (x .accepted)) ∙ (unfold started in refl)))
+set-up-closed {m} x = rw (x .fresh) (nothing-found (m .state)
+    (λ g. ap (λ (s : State). s .exists g) (started-is true (x .b) (x .n) (x .k) (x .word) (m .state) (x .accepted))
+    ∙ (unfold started in refl)))
 
 pub started-pair : (g : ℕ) {y z : Machine} → Same-start y z → Pair g y z
 started-pair g {y} {z} x = record {
@@ -326,7 +369,10 @@ started-pair g {y} {z} x = record {
     echo =
         let a = x .first in
         let b = x .second in
-        rw (started-is true (a .b) (a .n) (a .k) (a .word) (y .state) (a .accepted), started-is true (b .b) (b .n) (b .k) (b .word) (z .state) (b .accepted))
+        rw (
+          started-is true (a .b) (a .n) (a .k) (a .word) (y .state) (a .accepted),
+          started-is true (b .b) (b .n) (b .k) (b .word) (z .state) (b .accepted),
+        )
         (same-numbers (a .n) (b .n) (a .b) (b .b) (a .k) (b .k) (a .word) (b .word) (x .same-n) (x .same-b) (x .same-k))
 
     nothing : Same-kept nothing-kept nothing-kept
@@ -355,7 +401,13 @@ pair-ledger {g} {y} {z} p =
 
 pub pair-reach : {g : ℕ} {y z : Machine} → Pair g y z → (h : ℕ) (w : Access) (a : ℕ) → Reaches y h w a → Reaches z h w a
 unfolding Reach
-pair-reach {g} {y} {z} p h w a x = (x .0, x .1, kept (p .alike .caches .page-count h (x .0) (a / 4096) (x .1) .0 (p .first-closed .page-count h (x .0) (a / 4096) (x .1) (x .2))), x .3)
+pair-reach {g} {y} {z} p h w a x = (
+  x .0,
+  x .1,
+  kept (p .alike .caches .page-count h (x .0) (a / 4096) (x .1) .0
+      (p .first-closed .page-count h (x .0) (a / 4096) (x .1) (x .2))),
+  x .3,
+)
 
 pub lends-reads : (how : ℕ) (w : Access) → lends how w ≡ true → leb 1 how ≡ true
 lends-reads how reading e = e
@@ -371,12 +423,20 @@ allowed-shown s g f w (inr (inl x)) = rw (x .1, lends-reads (s .shared f g) w (x
     or-true false = refl
 allowed-shown s g f w (inr (inr x)) = rw (x, eq-eqb g g refl)
 
-pub pair-bytes : {g : ℕ} {y z : Machine} → Pair g y z → (w : Access) (a f : ℕ) → a / 4096 ≡ y .state .first + f → Reaches y g w a → byte (y .state) f (a % 4096) ≡ byte (z .state) f (a % 4096)
+pub pair-bytes : {g : ℕ} {y z : Machine} → Pair g y z → (w : Access) (a f : ℕ) → a / 4096 ≡ y .state .first + f → Reaches y g w a →
+    byte (y .state) f (a % 4096) ≡ byte (z .state) f (a % 4096)
 pair-bytes {g} {y} {z} p w a f e x =
     let q = p .alike .state in
     let q1 = q .1 in
-    let b = bytes-frame (y .state) (reworded (y .state) (q .0)) f f (q .2 .page-count f (allowed-shown (y .state) g f w (frame-allowed (p .first) g w a f e x))) (a % 4096) (omega arith) in
+    let b = bytes-frame (y .state) (reworded (y .state) (q .0)) f f
+    (q .2 .page-count f (allowed-shown (y .state) g f w (frame-allowed (p .first) g w a f e x))) (a % 4096) (omega arith) in
     rw q1 b
 
 pub pair-turned : {g : ℕ} {y z : Machine} → Pair g y z → Pair g z y
-pair-turned p = record { first = p .second; second = p .first; first-closed = p .second-closed; second-closed = p .first-closed; alike = turned (p .alike) }
+pair-turned p = record {
+  first = p .second;
+  second = p .first;
+  first-closed = p .second-closed;
+  second-closed = p .first-closed;
+  alike = turned (p .alike);
+}

@@ -71,7 +71,8 @@ upd-cond f k g v = elim (eq? k g) [
 ]
 
 -- a frame f of the state becomes something: the rest is as before
-becomes-roles : (g : ℕ) (s : State) (f : ℕ) (y : Frame-kind) (w sh : ℕ → ℕ → ℕ) (k : ℕ → ℕ → ℕ) → ((u : ℕ) → (u ≡ f → ⊥) → sh u g ≡ s .shared u g) → ((u : ℕ) → (u ≡ f → ⊥) → k u (role-of s g u) ≡ role-of s g u) →
+becomes-roles : (g : ℕ) (s : State) (f : ℕ) (y : Frame-kind) (w sh : ℕ → ℕ → ℕ) (k : ℕ → ℕ → ℕ) →
+    ((u : ℕ) → (u ≡ f → ⊥) → sh u g ≡ s .shared u g) → ((u : ℕ) → (u ≡ f → ⊥) → k u (role-of s g u) ≡ role-of s g u) →
     role g y (sh f g) ≡ k f (role-of s g f) → (u : ℕ) → role-of (becomes s f y w sh) g u ≡ k u (role-of s g u)
 unfolding becomes
 becomes-roles g s f y w sh k se others here u = elim (eq? u f) [
@@ -84,7 +85,8 @@ no-two : (b : Bool) → _≡_ {A = ℕ} (cond (eqb (cond b 2 0) 1) 3 (cond b 2 0
 no-two true = refl
 no-two false = refl
 
-drained-role : (g h : ℕ) (x : Frame-kind) (how : ℕ) → (x ≡ page h → (h ≡ g → ⊥) → how ≡ 0) → role g (drained h x) how ≡ cond (eqb h g) (cond (eqb (role g x how) 1) 3 (role g x how)) (role g x how)
+drained-role : (g h : ℕ) (x : Frame-kind) (how : ℕ) → (x ≡ page h → (h ≡ g → ⊥) → how ≡ 0) →
+    role g (drained h x) how ≡ cond (eqb h g) (cond (eqb (role g x how) 1) 3 (role g x how)) (role g x how)
 unfolding drained
 drained-role g h monitor how z = elim (bool? (eqb h g)) [ inl e ↦ rw e | inr e ↦ rw e ]
 drained-role g h free how z = elim (bool? (eqb h g)) [ inl e ↦ rw e | inr e ↦ rw e ]
@@ -108,7 +110,8 @@ drained-role g h (draining-page a) how z = elim (bool? (eqb h g)) [
   | inl e ↦ elim (bool? (eqb a g)) [ inl q ↦ rw (e, q) | inr q ↦ rw (e, q) ]
 ]
 
-released-role : (g h : ℕ) (x : Frame-kind) (how : ℕ) → role g (released h x) how ≡ cond (eqb h g) (cond (eqb (role g x how) 3) 0 (role g x how)) (role g x how)
+released-role : (g h : ℕ) (x : Frame-kind) (how : ℕ) → role g (released h x) how ≡
+    cond (eqb h g) (cond (eqb (role g x how) 3) 0 (role g x how)) (role g x how)
 unfolding released
 released-role g h monitor how = elim (bool? (eqb h g)) [ inl e ↦ rw e | inr e ↦ rw e ]
 released-role g h free how = elim (bool? (eqb h g)) [ inl e ↦ rw e | inr e ↦ rw e ]
@@ -158,7 +161,8 @@ module _ (g : ℕ) (s : State) (c : Core s) where
         dirty = unfold becomes in refl;
       })
 
-  taken-role : (f h : ℕ) → s .kind f ≡ page h → s .shared f g ≡ 0 → role g (cond (s .dirty h) (draining-page h) free) (s .shared f g) ≡ cond (eqb h g) (cond (s .dirty g) 3 0) (role-of s g f)
+  taken-role : (f h : ℕ) → s .kind f ≡ page h → s .shared f g ≡ 0 →
+      role g (cond (s .dirty h) (draining-page h) free) (s .shared f g) ≡ cond (eqb h g) (cond (s .dirty g) 3 0) (role-of s g f)
   taken-role f h hf z = elim (eq? h g) [
     | inl p ↦ rw (p, eq-eqb g g refl) (elim (bool? (s .dirty g)) [ inl d ↦ rw (d, eq-eqb g g refl) | inr d ↦ rw d ])
     | inr p ↦ rw (hf, z, ne-eqb h g p) (elim (bool? (s .dirty h)) [ inl d ↦ rw (d, ne-eqb h g p) | inr d ↦ rw d ])
@@ -168,16 +172,20 @@ module _ (g : ℕ) (s : State) (c : Core s) where
   unfolding take
   take-turns f h = checked 5 λ e1. checked 4 λ e2. checked 9 λ e3. checked 13 λ e4.
       let hf = page-of-is (s .kind f) h e3 in
-      let z = with-nobody s c f h hf (eqb-true (total (s .shared f)) 0 (and-true (eqb (total (s .count f)) 0) (eqb (total (s .shared f)) 0) e4 .1)) g in
+      let z = with-nobody s c f h hf (eqb-true (total (s .shared f)) 0
+      (and-true (eqb (total (s .count f)) 0) (eqb (total (s .shared f)) 0) e4 .1)) g in
       then-done (record {
-        roles = becomes-roles g s f (cond (s .dirty h) (draining-page h) free) (s .word) (s .shared) (λ u k. cond (eqb u f && eqb h g) (cond (s .dirty g) 3 0) k)
+        roles = becomes-roles g s f (cond (s .dirty h) (draining-page h) free) (s .word) (s .shared)
+            (λ u k. cond (eqb u f && eqb h g) (cond (s .dirty g) 3 0) k)
             (λ u ne. refl) (λ u ne. rw (ne-eqb u f ne)) (rw (eq-eqb f f refl) (taken-role f h hf z));
         dirty = unfold becomes in refl;
       })
 
-  lent-role : (o f h w : ℕ) → s .kind f ≡ page o → eqb o h ≡ false → role g (page o) (upd2 (s .shared) f h (cond (eqb w 0) 1 2) f g) ≡ cond (eqb h g) 2 (role-of s g f)
+  lent-role : (o f h w : ℕ) → s .kind f ≡ page o → eqb o h ≡ false →
+      role g (page o) (upd2 (s .shared) f h (cond (eqb w 0) 1 2) f g) ≡ cond (eqb h g) 2 (role-of s g f)
   lent-role o f h w hf ne = elim (eq? h g) [
-    | inl p ↦ rw (eq-eqb h g p, upd2-at (s .shared) f h (cond (eqb w 0) 1 2) f g refl (sym p), rw p at ne) (elim (bool? (eqb w 0)) [ inl e ↦ rw e | inr e ↦ rw e ])
+    | inl p ↦ rw (eq-eqb h g p, upd2-at (s .shared) f h (cond (eqb w 0) 1 2) f g refl (sym p), rw p at ne)
+        (elim (bool? (eqb w 0)) [ inl e ↦ rw e | inr e ↦ rw e ])
     | inr p ↦ rw (ne-eqb h g p, upd2-other (s .shared) f h (cond (eqb w 0) 1 2) f g (λ x y. p (sym y)), hf)
   ]
 
@@ -191,7 +199,8 @@ module _ (g : ℕ) (s : State) (c : Core s) where
         dirty = unfold becomes in refl;
       })
 
-  unlent-role : (o f h : ℕ) → s .kind f ≡ page o → role g (page o) (upd2 (s .shared) f h 0 f g) ≡ cond (eqb h g) (cond (eqb (role-of s g f) 2) 0 (role-of s g f)) (role-of s g f)
+  unlent-role : (o f h : ℕ) → s .kind f ≡ page o → role g (page o) (upd2 (s .shared) f h 0 f g) ≡
+      cond (eqb h g) (cond (eqb (role-of s g f) 2) 0 (role-of s g f)) (role-of s g f)
   unlent-role o f h hf = elim (eq? h g) [
     | inl p ↦ rw (eq-eqb h g p, upd2-at (s .shared) f h 0 f g refl (sym p), hf) (elim (bool? (eqb o g)) [
       | inl e ↦ rw e
@@ -206,7 +215,8 @@ module _ (g : ℕ) (s : State) (c : Core s) where
       then-done (record {
         roles = becomes-roles g s f (page o) (s .word) (upd2 (s .shared) f h 0) (λ u k. cond (eqb u f && eqb h g) (cond (eqb k 2) 0 k) k)
             (λ u ne. upd2-other (s .shared) f h 0 u g (λ x y. ne x)) (λ u ne. rw (ne-eqb u f ne))
-            (rw (eq-eqb f f refl) (unlent-role o f h (page-of-is (s .kind f) o (and-true (is-page-of (s .kind f) o) (ltb 0 (s .shared f h)) e3 .0))));
+            (rw (eq-eqb f f refl) (unlent-role o f h (page-of-is (s .kind f) o
+            (and-true (is-page-of (s .kind f) o) (ltb 0 (s .shared f h)) e3 .0))));
         dirty = unfold becomes in refl;
       })
 
@@ -214,7 +224,8 @@ module _ (g : ℕ) (s : State) (c : Core s) where
   unfolding destroy without-guest unshared
   destroy-turns h = checked 5 λ e1. checked 13 λ e2.
       then-done (record {
-        roles = λ u. drained-role g h (s .kind u) (s .shared u g) (λ (a : s .kind u ≡ page h) ne. nobody u a (all-true (s .size) (λ f. unshared s f h) e2 u (low s c u (page h) a refl)));
+        roles = λ u. drained-role g h (s .kind u) (s .shared u g)
+            (λ (a : s .kind u ≡ page h) ne. nobody u a (all-true (s .size) (λ f. unshared s f h) e2 u (low s c u (page h) a refl)));
         dirty = upd-cond (s .dirty) h g true;
       })
     where
@@ -225,13 +236,17 @@ module _ (g : ℕ) (s : State) (c : Core s) where
 
   invalidated-turns : (h : ℕ) → Then (Turns g s (Invalidated h)) (invalidated s h)
   unfolding invalidated clean
-  invalidated-turns h = checked 1 λ e1. then-done (record { roles = λ u. released-role g h (s .kind u) (s .shared u g); dirty = upd-cond (s .dirty) h g false })
+  invalidated-turns h = checked 1 λ e1. then-done (record {
+    roles = λ u. released-role g h (s .kind u) (s .shared u g);
+    dirty = upd-cond (s .dirty) h g false;
+  })
 
   map-turns : (f h a r : ℕ) (pick : ℕ → ℕ) → Choice s pick → Then (Turns g s (Map f h a r pick)) (map s f h a r pick)
   unfolding map with-mapping with-page
   map-turns f h a r pick ch =
       checked 5 λ e1. checked 14 λ e2. checked 7 λ e3. checked 8 λ e4. checked 4 λ e5. checked 9 λ e6. checked 10 λ e7. checked 3 λ e8.
-      let z = grown-for s c nothing-kept (nothing-ok s) h (a / 4096) pick e1 (address-low a e3) ch (leb-true (missing s h (a / 4096)) (free-frames s) e8) in
+      let z = grown-for s c nothing-kept (nothing-ok s) h (a / 4096) pick e1 (address-low a e3) ch
+      (leb-true (missing s h (a / 4096)) (free-frames s) e8) in
       then-done (record {
         roles = λ u. ap (λ (sh : ℕ → ℕ → ℕ). role g (x .state .kind u) (sh u g)) (z .shared) ∙ same u (z .from u (x .state .kind u) refl);
         dirty = ap (λ (d : ℕ → Bool). d g) (z .dirty);
@@ -248,7 +263,8 @@ module _ (g : ℕ) (s : State) (c : Core s) where
       a-table (page h) how e = cc
       a-table (draining-page h) how e = cc
 
-      same : (u : ℕ) → (s .kind u ≡ x .state .kind u) ⊎ ((s .kind u ≡ free) × (eqb TABLE (kind-number (x .state .kind u)) ≡ true)) → role g (x .state .kind u) (s .shared u g) ≡ role-of s g u
+      same : (u : ℕ) → (s .kind u ≡ x .state .kind u) ⊎ ((s .kind u ≡ free) × (eqb TABLE (kind-number (x .state .kind u)) ≡ true)) →
+          role g (x .state .kind u) (s .shared u g) ≡ role-of s g u
       same u (inl e) = rw e
       same u (inr e) = a-table (x .state .kind u) (s .shared u g) (e .1) ∙ rw (e .0)
 

@@ -63,14 +63,16 @@ given-bytes : (s : State) (f h : ℕ) (s′ : State) → answer s (Give f h) ≡
 given-bytes s f h s′ e = then-is (answer s (Give f h)) s′ clear e
   where
     clear : Then (λ s′. (i : ℕ) → byte s′ f i ≡ 0) (answer s (Give f h))
-    clear = unfold answer give in checked 5 λ e1. checked 4 λ e2. checked 6 λ e3. then-done (bytes-zero (becomes s f (page h) (upd (s .word) f zeros) (upd (s .shared) f zeros)) f
+    clear = unfold answer give in checked 5 λ e1. checked 4 λ e2. checked 6 λ e3. then-done (bytes-zero
+        (becomes s f (page h) (upd (s .word) f zeros) (upd (s .shared) f zeros)) f
         (unfold becomes zeros in λ i. rw (upd-same (s .word) f zeros)))
 
 lent-bytes : (s : State) (o f h w : ℕ) (s′ : State) → answer s (Share o f h w) ≡ done s′ → (i : ℕ) → byte s′ f i ≡ byte s f i
 lent-bytes s o f h w s′ e = then-is (answer s (Share o f h w)) s′ as-before e
   where
     as-before : Then (λ s′. (i : ℕ) → byte s′ f i ≡ byte s f i) (answer s (Share o f h w))
-    as-before = unfold answer share becomes byte in checked 5 λ e1. checked 12 λ e2. checked 4 λ e3. checked 9 λ e4. checked 13 λ e5. checked 14 λ e6. then-done (λ i. refl)
+    as-before =
+        unfold answer share becomes byte in checked 5 λ e1. checked 12 λ e2. checked 4 λ e3. checked 9 λ e4. checked 13 λ e5. checked 14 λ e6. then-done (λ i. refl)
 
 pub mirror : (g : ℕ) (R : Frames) (s s′ : State) {o o′ : Operation} → Matches g R s s′ o o′ → Matches g (flip R) s′ s o′ o
 mirror g R s s′ creates = creates
@@ -86,18 +88,22 @@ mirror g R s s′ reports = reports
 
 module _ (g : ℕ) (R : Frames) (y z : Machine) (cy : Covers g R y z) (cz : Covers g (flip R) z y) where
   -- a frame that g gets: the two correspond already, or neither is seen
-  given-new : (f f′ : ℕ) (s₁ s₂ : State) → answer (y .state) (Give f g) ≡ done s₁ → answer (z .state) (Give f′ g) ≡ done s₂ → (role-of (y .state) g f ≡ 0) × (role-of (z .state) g f′ ≡ 0)
+  given-new : (f f′ : ℕ) (s₁ s₂ : State) → answer (y .state) (Give f g) ≡ done s₁ → answer (z .state) (Give f′ g) ≡ done s₂ →
+      (role-of (y .state) g f ≡ 0) × (role-of (z .state) g f′ ≡ 0)
   given-new f f′ s₁ s₂ e e′ = (rw (given-was (y .state) f g s₁ e), rw (given-was (z .state) f′ g s₂ e′))
 
-  named : (f f′ a b : ℕ) → R f f′ ⊎ ((shown (y .state) g f ≡ false) × (shown (z .state) g f′ ≡ false) × Same-bytes (y .state) (z .state) f f′) → R a b → eqb a f ≡ eqb b f′
+  named : (f f′ a b : ℕ) → R f f′ ⊎ ((shown (y .state) g f ≡ false) × (shown (z .state) g f′ ≡ false) ×
+      Same-bytes (y .state) (z .state) f f′) → R a b → eqb a f ≡ eqb b f′
   named f f′ a b (inl x) w = same-eqb g R y z cy cz f f′ a b x w
   named f f′ a b (inr x) w = new-eqb g R y z cy cz f f′ a b (not-shown (y .state) g f (x .0)) (not-shown (z .state) g f′ (x .1)) w
 
   -- what corresponds turns into the same
-  same-turn : {o o′ : Operation} → Matches g R (y .state) (z .state) o o′ → (s₁ s₂ : State) → answer (y .state) o ≡ done s₁ → answer (z .state) o′ ≡ done s₂ →
+  same-turn : {o o′ : Operation} → Matches g R (y .state) (z .state) o o′ → (s₁ s₂ : State) → answer (y .state) o ≡ done s₁ →
+      answer (z .state) o′ ≡ done s₂ →
       (d : Bool) (a b k : ℕ) → R a b → role-after g d o a k ≡ role-after g d o′ b k
   same-turn creates s₁ s₂ e e′ d a b k w = refl
-  same-turn (gives {f} {f′}) s₁ s₂ e e′ d a b k w = let n = given-new f f′ s₁ s₂ e e′ in rw (new-eqb g R y z cy cz f f′ a b (n .0) (n .1) w)
+  same-turn (gives {f} {f′}) s₁ s₂ e e′ d a b k w = let n = given-new f f′ s₁ s₂ e e′ in rw
+      (new-eqb g R y z cy cz f f′ a b (n .0) (n .1) w)
   same-turn (takes {f} {f′} x) s₁ s₂ e e′ d a b k w = rw (same-eqb g R y z cy cz f f′ a b x w)
   same-turn (maps x) s₁ s₂ e e′ d a b k w = refl
   same-turn unmaps s₁ s₂ e e′ d a b k w = refl
@@ -107,31 +113,42 @@ module _ (g : ℕ) (R : Frames) (y z : Machine) (cy : Covers g R y z) (cz : Cove
   same-turn reports s₁ s₂ e e′ d a b k w = refl
 
   -- what is brought becomes the same, whatever it was
-  brought-turn : {o o′ : Operation} → Matches g R (y .state) (z .state) o o′ → (d : Bool) (a b k k′ : ℕ) → brings o ≡ some a → brings o′ ≡ some b → role-after g d o a k ≡ role-after g d o′ b k′
+  brought-turn : {o o′ : Operation} → Matches g R (y .state) (z .state) o o′ → (d : Bool) (a b k k′ : ℕ) → brings o ≡ some a →
+      brings o′ ≡ some b → role-after g d o a k ≡ role-after g d o′ b k′
   brought-turn creates d a b k k′ p q = cc
-  brought-turn (gives {f} {f′}) d a b k k′ p q = let p′ : a ≡ f = cc in let q′ : b ≡ f′ = cc in rw (eq-eqb a f p′, eq-eqb b f′ q′, eq-eqb g g refl)
+  brought-turn (gives {f} {f′}) d a b k k′ p q = let p′ : a ≡ f = cc in let q′ : b ≡ f′ =
+      cc in rw (eq-eqb a f p′, eq-eqb b f′ q′, eq-eqb g g refl)
   brought-turn (takes x) d a b k k′ p q = cc
   brought-turn (maps x) d a b k k′ p q = cc
   brought-turn unmaps d a b k k′ p q = cc
-  brought-turn (lends {o} {f} {f′} x) d a b k k′ p q = let p′ : a ≡ f = cc in let q′ : b ≡ f′ = cc in rw (eq-eqb a f p′, eq-eqb b f′ q′, eq-eqb g g refl)
+  brought-turn (lends {o} {f} {f′} x) d a b k k′ p q = let p′ : a ≡ f = cc in let q′ : b ≡ f′ =
+      cc in rw (eq-eqb a f p′, eq-eqb b f′ q′, eq-eqb g g refl)
   brought-turn (unlends x) d a b k k′ p q = cc
   brought-turn destroys d a b k k′ p q = cc
   brought-turn reports d a b k k′ p q = cc
 
   -- nothing comes to g but what is brought, and both bring something
-  brought : {o o′ : Operation} → Matches g R (y .state) (z .state) o o′ → (d : Bool) (a : ℕ) → role-of (y .state) g a ≡ 0 → (role-after g d o a 0 ≡ 0 → ⊥) → (b : ℕ) × (brings o ≡ some a) × (brings o′ ≡ some b)
+  brought : {o o′ : Operation} → Matches g R (y .state) (z .state) o o′ → (d : Bool) (a : ℕ) → role-of (y .state) g a ≡ 0 →
+      (role-after g d o a 0 ≡ 0 → ⊥) → (b : ℕ) × (brings o ≡ some a) × (brings o′ ≡ some b)
   brought creates d a e n = absurd (n refl)
   brought (gives {f} {f′}) d a e n = elim (eq? a f) [ inl p ↦ (f′, ap some (sym p), refl) | inr p ↦ absurd (n (rw (ne-eqb a f p))) ]
-  brought (takes {f} {f′} x) d a e n = elim (eq? a f) [ inl p ↦ absurd (cy .seen f f′ x (ap (role-of (y .state) g) (sym p) ∙ e)) | inr p ↦ absurd (n (rw (ne-eqb a f p))) ]
+  brought (takes {f} {f′} x) d a e n = elim (eq? a f) [
+    | inl p ↦ absurd (cy .seen f f′ x (ap (role-of (y .state) g) (sym p) ∙ e))
+    | inr p ↦ absurd (n (rw (ne-eqb a f p)))
+  ]
   brought (maps x) d a e n = absurd (n refl)
   brought unmaps d a e n = absurd (n refl)
   brought (lends {o} {f} {f′} x) d a e n = elim (eq? a f) [ inl p ↦ (f′, ap some (sym p), refl) | inr p ↦ absurd (n (rw (ne-eqb a f p))) ]
-  brought (unlends {o} {f} {f′} x) d a e n = elim (eq? a f) [ inl p ↦ absurd (cy .seen f f′ x (ap (role-of (y .state) g) (sym p) ∙ e)) | inr p ↦ absurd (n (rw (ne-eqb a f p))) ]
+  brought (unlends {o} {f} {f′} x) d a e n = elim (eq? a f) [
+    | inl p ↦ absurd (cy .seen f f′ x (ap (role-of (y .state) g) (sym p) ∙ e))
+    | inr p ↦ absurd (n (rw (ne-eqb a f p)))
+  ]
   brought destroys d a e n = absurd (n (rw (eq-eqb g g refl)))
   brought reports d a e n = absurd (n (rw (eq-eqb g g refl)))
 
   -- a frame that is brought corresponds to no other
-  brought-single : {o o′ : Operation} → Matches g R (y .state) (z .state) o o′ → (s₁ s₂ : State) → answer (y .state) o ≡ done s₁ → answer (z .state) o′ ≡ done s₂ →
+  brought-single : {o o′ : Operation} → Matches g R (y .state) (z .state) o o′ → (s₁ s₂ : State) → answer (y .state) o ≡ done s₁ →
+      answer (z .state) o′ ≡ done s₂ →
       (a b b′ : ℕ) → brings o ≡ some a → brings o′ ≡ some b → R a b′ → b′ ≡ b
   brought-single creates s₁ s₂ e e′ a b b′ p q w = cc
   brought-single (gives {f} {f′}) s₁ s₂ e e′ a b b′ p q w =
@@ -151,12 +168,14 @@ module _ (g : ℕ) (R : Frames) (y z : Machine) (cy : Covers g R y z) (cz : Cove
   brought-single destroys s₁ s₂ e e′ a b b′ p q w = cc
   brought-single reports s₁ s₂ e e′ a b b′ p q w = cc
 
-  lent-same : (f f′ : ℕ) → R f f′ ⊎ ((shown (y .state) g f ≡ false) × (shown (z .state) g f′ ≡ false) × Same-bytes (y .state) (z .state) f f′) → Same-bytes (y .state) (z .state) f f′
+  lent-same : (f f′ : ℕ) → R f f′ ⊎ ((shown (y .state) g f ≡ false) × (shown (z .state) g f′ ≡ false) ×
+      Same-bytes (y .state) (z .state) f f′) → Same-bytes (y .state) (z .state) f f′
   lent-same f f′ (inl x) = cy .bytes f f′ x
   lent-same f f′ (inr x) = x .2
 
   -- what is brought has the same bytes
-  brought-bytes : {o o′ : Operation} → Matches g R (y .state) (z .state) o o′ → (s₁ s₂ : State) → answer (y .state) o ≡ done s₁ → answer (z .state) o′ ≡ done s₂ →
+  brought-bytes : {o o′ : Operation} → Matches g R (y .state) (z .state) o o′ → (s₁ s₂ : State) → answer (y .state) o ≡ done s₁ →
+      answer (z .state) o′ ≡ done s₂ →
       (a b : ℕ) → brings o ≡ some a → brings o′ ≡ some b → Same-bytes s₁ s₂ a b
   brought-bytes creates s₁ s₂ e e′ a b p q i l = cc
   brought-bytes (gives {f} {f′}) s₁ s₂ e e′ a b p q i l =
@@ -197,7 +216,8 @@ module _ (g : ℕ) (R : Frames) (y z : Machine) (cy : Covers g R y z) (cz : Cove
   same-dirty reports d = refl
 
   -- at one page something else, elsewhere as before
-  elsewhere : (v v′ f r : ℕ) (p p′ : Option Page) → v < page-count → (p ≡ some (f, r) → (f′ : ℕ) × R f f′ × (p′ ≡ some (f′, r))) → cond (eqb v v′) p (translate (y .state) g v) ≡ some (f, r) →
+  elsewhere : (v v′ f r : ℕ) (p p′ : Option Page) → v < page-count → (p ≡ some (f, r) → (f′ : ℕ) × R f f′ × (p′ ≡ some (f′, r))) →
+      cond (eqb v v′) p (translate (y .state) g v) ≡ some (f, r) →
       (f′ : ℕ) × R f f′ × (cond (eqb v v′) p′ (translate (z .state) g v) ≡ some (f′, r))
   elsewhere v v′ f r p p′ l here e = elim (bool? (eqb v v′)) [
     | inl a ↦ rw a (here (rw a at e))
@@ -211,7 +231,8 @@ module _ (g : ℕ) (R : Frames) (y z : Machine) (cy : Covers g R y z) (cz : Cove
   page-parts f r f₀ r₀ e = let q : _≡_ {A = Page} (f₀, r₀) (f, r) = cc in (ap (λ (x : Page). x .0) q, ap (λ (x : Page). x .1) q)
 
   -- the tables say the same
-  same-now : {o o′ : Operation} → Matches g R (y .state) (z .state) o o′ → (v f r : ℕ) → v < page-count → expected (y .state) o g v ≡ some (f, r) → (f′ : ℕ) × R f f′ × (expected (z .state) o′ g v ≡ some (f′, r))
+  same-now : {o o′ : Operation} → Matches g R (y .state) (z .state) o o′ → (v f r : ℕ) → v < page-count →
+      expected (y .state) o g v ≡ some (f, r) → (f′ : ℕ) × R f f′ × (expected (z .state) o′ g v ≡ some (f′, r))
   unfolding expected
   same-now creates v f r l e = cy .now v f r l e
   same-now gives v f r l e = cy .now v f r l e
@@ -219,14 +240,17 @@ module _ (g : ℕ) (R : Frames) (y z : Machine) (cy : Covers g R y z) (cz : Cove
   same-now (maps {f = f₀} {f′ = f₀′} {a = a} {r = r₀} x) v f r l e =
       rw (eq-eqb g g refl) (elsewhere v (a / 4096) f r (some (f₀, r₀)) (some (f₀′, r₀)) l
       (λ q. let w = page-parts f r f₀ r₀ q in (f₀′, rw (w .0) at x, ap (λ (n : ℕ). some (f₀′, n)) (w .1))) (rw (eq-eqb g g refl) at e))
-  same-now (unmaps {a}) v f r l e = rw (eq-eqb g g refl) (elsewhere v (a / 4096) f r none none l (λ q. nowhere f r ((f′ : ℕ) × R f f′ × (none ≡ some (f′, r))) q) (rw (eq-eqb g g refl) at e))
+  same-now (unmaps {a}) v f r l e = rw (eq-eqb g g refl) (elsewhere v (a / 4096) f r none none l
+      (λ q. nowhere f r ((f′ : ℕ) × R f f′ × (none ≡ some (f′, r))) q) (rw (eq-eqb g g refl) at e))
   same-now (lends x) v f r l e = cy .now v f r l e
   same-now (unlends x) v f r l e = cy .now v f r l e
-  same-now destroys v f r l e = nowhere f r ((f′ : ℕ) × R f f′ × (cond (eqb g g) none (translate (z .state) g v) ≡ some (f′, r))) (rw (eq-eqb g g refl) at e)
+  same-now destroys v f r l e = nowhere f r ((f′ : ℕ) × R f f′ × (cond (eqb g g) none (translate (z .state) g v) ≡ some (f′, r)))
+      (rw (eq-eqb g g refl) at e)
   same-now reports v f r l e = cy .now v f r l e
 
   -- both answered: everything again, over what corresponds then
-  module _ {o o′ : Operation} (ma : Matches g R (y .state) (z .state) o o′) (y′ z′ : Machine) (ey : answer (y .state) o ≡ done (y′ .state)) (ez : answer (z .state) o′ ≡ done (z′ .state))
+  module _ {o o′ : Operation} (ma : Matches g R (y .state) (z .state) o o′) (y′ z′ : Machine)
+      (ey : answer (y .state) o ≡ done (y′ .state)) (ez : answer (z .state) o′ ≡ done (z′ .state))
       (sy : Sane y′) (sz : Sane z′) (a : Called g y o y′) (b : Called g z o′ z′) where
     R′ : Frames
     R′ = after g R o o′ (y′ .state) (z′ .state)
@@ -259,8 +283,14 @@ module _ (g : ℕ) (R : Frames) (y z : Machine) (cy : Covers g R y z) (cz : Cove
     there-again f n = elim (eq? (role-of (y .state) g f) 0) [
       | inr p ↦ let w = cy .there f p in (w .0, old f (w .0) n (w .1))
       | inl p ↦
-          let w = brought ma (y .state .dirty g) f p (λ e. n (a .turns .roles f ∙ ap (role-after g (y .state .dirty g) o f) p ∙ e)) in
-          (w .0, (inr (w .1, w .2), is-shown (y′ .state) g f n, is-shown (z′ .state) g (w .0) (λ e. n (new-roles f (w .0) (w .1) (w .2) ∙ e))))
+          let w = brought ma (y .state .dirty g) f p (λ e. n (a .turns .roles f ∙ ap (role-after g (y .state .dirty g) o f) p ∙ e)) in (
+            w .0,
+            (
+              inr (w .1, w .2),
+              is-shown (y′ .state) g f n,
+              is-shown (z′ .state) g (w .0) (λ e. n (new-roles f (w .0) (w .1) (w .2) ∙ e)),
+            ),
+          )
     ]
 
     single-again : (f f′ f″ : ℕ) → R′ f f′ → R′ f f″ → f′ ≡ f″
@@ -273,12 +303,14 @@ module _ (g : ℕ) (R : Frames) (y z : Machine) (cy : Covers g R y z) (cz : Cove
         go (inr p) (inl q) = sym (brought-single ma (y′ .state) (z′ .state) ey ez f f′ f″ (p .0) (p .1) q)
         go (inr p) (inr q) = let p1 = p .1 in let q1 = q .1 in cc
 
-    now-again : (v f r : ℕ) → v < page-count → translate (y′ .state) g v ≡ some (f, r) → (f′ : ℕ) × R′ f f′ × (translate (z′ .state) g v ≡ some (f′, r))
+    now-again : (v f r : ℕ) → v < page-count → translate (y′ .state) g v ≡ some (f, r) →
+        (f′ : ℕ) × R′ f f′ × (translate (z′ .state) g v ≡ some (f′, r))
     now-again v f r l e =
         let w = same-now ma v f r l (sym (a .now v l) ∙ e) in
         (w .0, old f (w .0) (kept-role (sane-holds sy) g v f r (now-kept sy g v f r l e)) (w .1), b .now v l ∙ w .2)
 
-    kept-again : (v f r : ℕ) → y′ .caches .page-kept g v (y′ .state .first + f) r → (f′ : ℕ) × R′ f f′ × z′ .caches .page-kept g v (z′ .state .first + f′) r
+    kept-again : (v f r : ℕ) → y′ .caches .page-kept g v (y′ .state .first + f) r →
+        (f′ : ℕ) × R′ f f′ × z′ .caches .page-kept g v (z′ .state .first + f′) r
     kept-again v f r k = elim (a .was-kept v f r k) [
       | inl p ↦
           let w = cy .kept v f r (p .1) in

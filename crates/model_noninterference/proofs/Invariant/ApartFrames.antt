@@ -27,11 +27,14 @@ pub record Covers (g : ℕ) (R : Frames) (y z : Machine) : Type 0 where
   pub there : (f : ℕ) → (role-of (y .state) g f ≡ 0 → ⊥) → (f′ : ℕ) × R f f′
   pub single : (f f′ f″ : ℕ) → R f f′ → R f f″ → f′ ≡ f″
   pub dirty : y .state .dirty g ≡ z .state .dirty g
-  pub now : (v f r : ℕ) → v < page-count → translate (y .state) g v ≡ some (f, r) → (f′ : ℕ) × R f f′ × (translate (z .state) g v ≡ some (f′, r))
-  pub kept : (v f r : ℕ) → y .caches .page-kept g v (y .state .first + f) r → (f′ : ℕ) × R f f′ × z .caches .page-kept g v (z .state .first + f′) r
+  pub now : (v f r : ℕ) → v < page-count → translate (y .state) g v ≡ some (f, r) →
+      (f′ : ℕ) × R f f′ × (translate (z .state) g v ≡ some (f′, r))
+  pub kept : (v f r : ℕ) → y .caches .page-kept g v (y .state .first + f) r →
+      (f′ : ℕ) × R f f′ × z .caches .page-kept g v (z .state .first + f′) r
   pub bytes : (f f′ : ℕ) → R f f′ → Same-bytes (y .state) (z .state) f f′
 
-pub covers-iff : (g : ℕ) (R R′ : Frames) (y z : Machine) → ((f f′ : ℕ) → R f f′ → R′ f f′) → ((f f′ : ℕ) → R′ f f′ → R f f′) → Covers g R y z → Covers g R′ y z
+pub covers-iff : (g : ℕ) (R R′ : Frames) (y z : Machine) → ((f f′ : ℕ) → R f f′ → R′ f f′) → ((f f′ : ℕ) → R′ f f′ → R f f′) →
+    Covers g R y z → Covers g R′ y z
 covers-iff g R R′ y z to from c = record {
   roles = λ f f′ x. c .roles f f′ (from f f′ x);
   seen = λ f f′ x. c .seen f f′ (from f f′ x);
@@ -44,7 +47,8 @@ covers-iff g R R′ y z to from c = record {
 }
 
 -- steps that leave what g sees, but for bytes
-pub covers-view : (g : ℕ) (R : Frames) {y z y′ z′ : Machine} → Same-view g y y′ → Same-view g z z′ → ((f f′ : ℕ) → R f f′ → Same-bytes (y′ .state) (z′ .state) f f′) → Covers g R y z → Covers g R y′ z′
+pub covers-view : (g : ℕ) (R : Frames) {y z y′ z′ : Machine} → Same-view g y y′ → Same-view g z z′ →
+    ((f f′ : ℕ) → R f f′ → Same-bytes (y′ .state) (z′ .state) f f′) → Covers g R y z → Covers g R y′ z′
 covers-view g R {y} {z} {y′} {z′} a b bs c = record {
   roles = λ f f′ x. a .roles f ∙ c .roles f f′ x ∙ sym (b .roles f′);
   seen = λ f f′ x e. c .seen f f′ x (sym (a .roles f) ∙ e);
@@ -58,17 +62,27 @@ covers-view g R {y} {z} {y′} {z′} a b bs c = record {
 
 pub covers-unseen : (g : ℕ) (R : Frames) {y z y′ z′ : Machine} → Unseen g y y′ → Unseen g z z′ → Covers g R y z → Covers g R y′ z′
 covers-unseen g R {y} {z} {y′} {z′} a b c = covers-view g R (a .view) (b .view)
-    (λ f f′ x i l. a .bytes f (c .seen f f′ x) i l ∙ c .bytes f f′ x i l ∙ sym (b .bytes f′ (λ e. c .seen f f′ x (c .roles f f′ x ∙ e)) i l)) c
+    (λ f f′ x i l. a .bytes f (c .seen f f′ x) i l ∙ c .bytes f f′ x i l
+    ∙ sym (b .bytes f′ (λ e. c .seen f f′ x (c .roles f f′ x ∙ e)) i l)) c
 
 -- the same store to frames that correspond
 stored-here : (s s′ : State) (f f′ o x : ℕ) → x < 256 → Same-bytes s s′ f f′ → Same-bytes (stored s f o x) (stored s′ f′ o x) f f′
 unfolding stored byte
 stored-here s s′ f f′ o x lx e i l = elim (eq? (i / 8) (o / 8)) [
-  | inr p ↦ rw (upd2-other (s .word) f (o / 8) (put-byte (o % 8) (s .word f (o / 8)) x) f (i / 8) (λ a b. p b), upd2-other (s′ .word) f′ (o / 8) (put-byte (o % 8) (s′ .word f′ (o / 8)) x) f′ (i / 8) (λ a b. p b)) (e i l)
-  | inl p ↦ rw (upd2-at (s .word) f (o / 8) (put-byte (o % 8) (s .word f (o / 8)) x) f (i / 8) refl p, upd2-at (s′ .word) f′ (o / 8) (put-byte (o % 8) (s′ .word f′ (o / 8)) x) f′ (i / 8) refl p)
+  | inr p ↦ rw (
+    upd2-other (s .word) f (o / 8) (put-byte (o % 8) (s .word f (o / 8)) x) f (i / 8) (λ a b. p b),
+    upd2-other (s′ .word) f′ (o / 8) (put-byte (o % 8) (s′ .word f′ (o / 8)) x) f′ (i / 8) (λ a b. p b),
+  ) (e i l)
+  | inl p ↦ rw (
+    upd2-at (s .word) f (o / 8) (put-byte (o % 8) (s .word f (o / 8)) x) f (i / 8) refl p,
+    upd2-at (s′ .word) f′ (o / 8) (put-byte (o % 8) (s′ .word f′ (o / 8)) x) f′ (i / 8) refl p,
+  )
       (elim (eq? (i % 8) (o % 8)) [
         | inl q ↦ rw (q, byte-put-same (o % 8) (s .word f (o / 8)) x lx, byte-put-same (o % 8) (s′ .word f′ (o / 8)) x lx)
-        | inr q ↦ rw (byte-put-other (i % 8) (o % 8) (s .word f (o / 8)) x lx q, byte-put-other (i % 8) (o % 8) (s′ .word f′ (o / 8)) x lx q) (rw p at (e i l))
+        | inr q ↦ rw (
+          byte-put-other (i % 8) (o % 8) (s .word f (o / 8)) x lx q,
+          byte-put-other (i % 8) (o % 8) (s′ .word f′ (o / 8)) x lx q,
+        ) (rw p at (e i l))
       ])
 ]
 
@@ -82,10 +96,15 @@ module _ (g : ℕ) (R : Frames) (y z : Machine) (cy : Covers g R y z) (cz : Cove
 
   -- and so are those that g does not see yet
   pub new-eqb : (f f′ a b : ℕ) → role-of (y .state) g f ≡ 0 → role-of (z .state) g f′ ≡ 0 → R a b → eqb a f ≡ eqb b f′
-  new-eqb f f′ a b n n′ w = rw (ne-eqb a f (λ (p : a ≡ f). cy .seen a b w (ap (role-of (y .state) g) p ∙ n)), ne-eqb b f′ (λ (p : b ≡ f′). cz .seen b a w (ap (role-of (z .state) g) p ∙ n′)))
+  new-eqb f f′ a b n n′ w = rw (
+    ne-eqb a f (λ (p : a ≡ f). cy .seen a b w (ap (role-of (y .state) g) p ∙ n)),
+    ne-eqb b f′ (λ (p : b ≡ f′). cz .seen b a w (ap (role-of (z .state) g) p ∙ n′)),
+  )
 
-  pub both-stored : (f f′ o x : ℕ) → x < 256 → R f f′ → (a b : ℕ) → R a b → Same-bytes (stored (y .state) f o x) (stored (z .state) f′ o x) a b
+  pub both-stored : (f f′ o x : ℕ) → x < 256 → R f f′ → (a b : ℕ) → R a b →
+      Same-bytes (stored (y .state) f o x) (stored (z .state) f′ o x) a b
   both-stored f f′ o x lx r a b w = elim (eq? a f) [
     | inl p ↦ let q = cy .single f b f′ (rw p at w) r in rw (p, q) (stored-here (y .state) (z .state) f f′ o x lx (cy .bytes f f′ r))
-    | inr p ↦ λ i l. stored-apart (y .state) f o x a p i l ∙ cy .bytes a b w i l ∙ sym (stored-apart (z .state) f′ o x b (λ (e : b ≡ f′). p (cz .single f′ a f (rw e at w) r)) i l)
+    | inr p ↦ λ i l. stored-apart (y .state) f o x a p i l ∙ cy .bytes a b w i l
+        ∙ sym (stored-apart (z .state) f′ o x b (λ (e : b ≡ f′). p (cz .single f′ a f (rw e at w) r)) i l)
   ]

@@ -1,4 +1,5 @@
--- What a processor that has kept all it can find keeps after a step: what was kept, and what the tables say now. Nothing else, also where tables drain.
+-- What a processor that has kept all it can find keeps after a step: what was kept, and what the tables say now. Nothing else, also
+-- where tables drain.
 use mathlib.Core.Path.{_≡_, refl, sym, ap, _∙_}
 use mathlib.Core.Bool.{Bool, true, false, cond}
 use mathlib.Core.Logic.{_⊎_, inl, inr}
@@ -31,7 +32,8 @@ use Rattle.model.proofs.Invariant.Reaching.{reported, kept-after, found}
 use Rattle.model.proofs.Invariant.LinkedAlways.{linked-always, last-low, entry-translates}
 use Rattle.model_noninterference.proofs.Invariant.Alike.{Closed}
 
--- only destroy makes tables drain, and what drains keeps its words; a report for g leaves no table that drains for g. Such a table was there before
+-- only destroy makes tables drain, and what drains keeps its words; a report for g leaves no table that drains for g. Such a table was
+-- there before
 pub record Was-there (g : ℕ) (s : State) (o : Operation) (s′ : State) : Type 0 where
   pub table-there : (t h p : ℕ) → s′ .kind t ≡ draining-table g h p → (s .kind t ≡ draining-table g h p) ⊎ (s .kind t ≡ table g h p)
   pub words : (t h p : ℕ) → s′ .kind t ≡ draining-table g h p → (i : ℕ) → s′ .word t i ≡ s .word t i
@@ -39,7 +41,8 @@ pub record Was-there (g : ℕ) (s : State) (o : Operation) (s′ : State) : Type
 
 module _ (g : ℕ) (s : State) (c : Core s) where
   -- where no table begins to drain
-  drains-as-before : (o : Operation) (s′ : State) → Orderly s s′ → reported g o ≡ false → ((t h p : ℕ) → s′ .kind t ≡ draining-table g h p → s .kind t ≡ draining-table g h p) → Was-there g s o s′
+  drains-as-before : (o : Operation) (s′ : State) → Orderly s s′ → reported g o ≡ false →
+      ((t h p : ℕ) → s′ .kind t ≡ draining-table g h p → s .kind t ≡ draining-table g h p) → Was-there g s o s′
   drains-as-before o s′ x n d = record {
     table-there = λ t h p a. inl (d t h p a);
     words = λ t h p a. x .words t (draining-table g h p) (d t h p a) refl refl;
@@ -61,7 +64,8 @@ module _ (g : ℕ) (s : State) (c : Core s) where
   unfolding map with-mapping with-page
   map-from f h a r pick ch =
       checked 5 λ e1. checked 14 λ e2. checked 7 λ e3. checked 8 λ e4. checked 4 λ e5. checked 9 λ e6. checked 10 λ e7. checked 3 λ e8.
-      let z = grown-for s c nothing-kept (nothing-ok s) h (a / 4096) pick e1 (address-low a e3) ch (leb-true (missing s h (a / 4096)) (free-frames s) e8) in
+      let z = grown-for s c nothing-kept (nothing-ok s) h (a / 4096) pick e1 (address-low a e3) ch
+      (leb-true (missing s h (a / 4096)) (free-frames s) e8) in
       then-done (λ t n p b. elim (z .from t (draining-table g n p) b) [ inl x ↦ x | inr x ↦ let x1 = x .1 in absurd (no-bool x1) ])
     where
       no-bool : false ≡ true → ⊥
@@ -77,11 +81,13 @@ module _ (g : ℕ) (s : State) (c : Core s) where
 
   create-from : (h : ℕ) (pick : ℕ → ℕ) → Then Kinds-from (create s h pick)
   unfolding create with-root
-  create-from h pick = checked 1 λ e1. checked 2 λ e2. checked 3 λ e3. then-done (λ t n p a. kind-from (s .kind) (pick 0) (table h 3 0) t (draining-table g n p) a refl)
+  create-from h pick = checked 1 λ e1. checked 2 λ e2. checked 3 λ e3. then-done
+      (λ t n p a. kind-from (s .kind) (pick 0) (table h 3 0) t (draining-table g n p) a refl)
 
   give-from : (f h : ℕ) → Then Kinds-from (give s f h)
   unfolding give
-  give-from f h = checked 5 λ e1. checked 4 λ e2. checked 6 λ e3. then-done (becomes-from f (page h) (upd (s .word) f zeros) (upd (s .shared) f zeros) refl)
+  give-from f h = checked 5 λ e1. checked 4 λ e2. checked 6 λ e3. then-done
+      (becomes-from f (page h) (upd (s .word) f zeros) (upd (s .shared) f zeros) refl)
 
   take-from : (f h : ℕ) → Then Kinds-from (take s f h)
   unfolding take
@@ -94,7 +100,8 @@ module _ (g : ℕ) (s : State) (c : Core s) where
 
   unshare-from : (o f h : ℕ) → Then Kinds-from (unshare s o f h)
   unfolding unshare
-  unshare-from o f h = checked 5 λ e1. checked 4 λ e2. checked 9 λ e3. checked 13 λ e4. checked 14 λ e5. then-done (becomes-from f (page o) (s .word) (upd2 (s .shared) f h 0) refl)
+  unshare-from o f h = checked 5 λ e1. checked 4 λ e2. checked 9 λ e3. checked 13 λ e4. checked 14 λ e5. then-done
+      (becomes-from f (page o) (s .word) (upd2 (s .shared) f h 0) refl)
 
   destroy-there : (h : ℕ) → Then (Was-there g s (Destroy h)) (destroy s h)
   unfolding destroy without-guest
@@ -104,7 +111,8 @@ module _ (g : ℕ) (s : State) (c : Core s) where
     no-report = λ t n p a. refl;
   })
     where
-      before : (t n p : ℕ) → drained h (s .kind t) ≡ draining-table g n p → Was h (s .kind t) → (s .kind t ≡ draining-table g n p) ⊎ (s .kind t ≡ table g n p)
+      before : (t n p : ℕ) → drained h (s .kind t) ≡ draining-table g n p → Was h (s .kind t) →
+          (s .kind t ≡ draining-table g n p) ⊎ (s .kind t ≡ table g n p)
       before t n p a (stays b d e) = inl (sym b ∙ a)
       before t n p a (was-table n′ p′ b d) = inr (cc)
       before t n p a (was-page b d) = absurd (clash {x = draining-page h} {y = draining-table g n p} (sym d ∙ a) refl)
@@ -140,7 +148,8 @@ module _ (g : ℕ) (s : State) (c : Core s) where
 
 -- what stands in a last table that drains has been kept
 pub record Recalls (s : State) (k : Caches) : Type 0 where
-  pub drained-entry : (t g v f r : ℕ) → s .kind t ≡ draining-table g 0 (v / 512) → entry-at s t (v % 512) ≡ to-page f r → k .page-kept g v (s .first + f) r
+  pub drained-entry : (t g v f r : ℕ) → s .kind t ≡ draining-table g 0 (v / 512) → entry-at s t (v % 512) ≡ to-page f r →
+      k .page-kept g v (s .first + f) r
 
 -- a machine after any run from set-up
 pub record Sane (m : Machine) : Type 1 where
@@ -162,7 +171,8 @@ module _ {m : Machine} (x : Sane m) where
   now-kept g v f r l e = x .closed .page-count g v (m .state .first + f) r (found (m .state) (sane-holds x .core) (m .caches) g v f r l e)
 
   -- and so has what stands in any last table
-  entry-kept : (t g v f r : ℕ) → (m .state .kind t ≡ draining-table g 0 (v / 512)) ⊎ (m .state .kind t ≡ table g 0 (v / 512)) → entry-at (m .state) t (v % 512) ≡ to-page f r → m .caches .page-kept g v (m .state .first + f) r
+  entry-kept : (t g v f r : ℕ) → (m .state .kind t ≡ draining-table g 0 (v / 512)) ⊎ (m .state .kind t ≡ table g 0 (v / 512)) →
+      entry-at (m .state) t (v % 512) ≡ to-page f r → m .caches .page-kept g v (m .state .first + f) r
   entry-kept t g v f r (inl k) e = x .recalls .drained-entry t g v f r k e
   entry-kept t g v f r (inr k) e =
       let c = sane-holds x .core in
@@ -176,16 +186,20 @@ module _ {m : Machine} (x : Sane m) where
     pub sound : Sound (keeps (m .caches) o) s′
     sound = then-is (answer (m .state) o) s′ (answer-good (m .state) (sane-holds x .core) (m .caches) (sane-holds x .kept) o ch) e
 
-    pub stale-kept : (t g v f r : ℕ) → s′ .kind t ≡ draining-table g 0 (v / 512) → entry-at s′ t (v % 512) ≡ to-page f r → keeps (m .caches) o .page-kept g v (s′ .first + f) r
+    pub stale-kept : (t g v f r : ℕ) → s′ .kind t ≡ draining-table g 0 (v / 512) → entry-at s′ t (v % 512) ≡ to-page f r →
+        keeps (m .caches) o .page-kept g v (s′ .first + f) r
     stale-kept t g v f r k n =
         let w = then-is (answer (m .state) o) s′ (answer-there g (m .state) (sane-holds x .core) o ch) e in
         let f= = same-first in
-        let same : entry-at s′ t (v % 512) ≡ entry-at (m .state) t (v % 512) = ap (λ (z : ℕ). entry z (s′ .word t (v % 512))) f= ∙ ap (entry (m .state .first)) (w .words t 0 (v / 512) k (v % 512)) in
-        rw f= (kept-after (m .caches) o g v (m .state .first + f) r (w .no-report t 0 (v / 512) k) (entry-kept t g v f r (w .table-there t 0 (v / 512) k) (sym same ∙ n)))
+        let same : entry-at s′ t (v % 512) ≡ entry-at (m .state) t (v % 512) = ap (λ (z : ℕ). entry z (s′ .word t (v % 512))) f=
+        ∙ ap (entry (m .state .first)) (w .words t 0 (v / 512) k (v % 512)) in
+        rw f= (kept-after (m .caches) o g v (m .state .first + f) r (w .no-report t 0 (v / 512) k)
+        (entry-kept t g v f r (w .table-there t 0 (v / 512) k) (sym same ∙ n)))
 
 -- what is found was kept, or the tables say it now
 module _ (s : State) (k : Caches) (c : Core s) (q : Kept s k) (l : Linked s) (g : ℕ)
-    (stale : (t v f r : ℕ) → s .kind t ≡ draining-table g 0 (v / 512) → entry-at s t (v % 512) ≡ to-page f r → k .page-kept g v (s .first + f) r) where
+    (stale : (t v f r : ℕ) → s .kind t ≡ draining-table g 0 (v / 512) → entry-at s t (v % 512) ≡ to-page f r →
+    k .page-kept g v (s .first + f) r) where
   abbrev Kept-or-now : (v f r : ℕ) → Type 0
   Kept-or-now v f r = k .page-kept g v (s .first + f) r ⊎ ((v < page-count) × (translate s g v ≡ some (f, r)))
 

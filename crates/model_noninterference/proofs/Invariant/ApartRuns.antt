@@ -35,7 +35,8 @@ pub done-is : (x : Out) → answered x ≡ true → (s : State) × (x ≡ done s
 done-is (refuse n) e = let z : _≡_ {A = ℕ} 0 1 = cc in absurd (omega arith)
 done-is (done s) e = (s, refl)
 
-call-is : (m : Machine) (o : Operation) (s : State) → answer (m .state) o ≡ done s → call m o ≡ record { state = s; caches = grown s (keeps (m .caches) o) }
+call-is : (m : Machine) (o : Operation) (s : State) → answer (m .state) o ≡ done s →
+    call m o ≡ record { state = s; caches = grown s (keeps (m .caches) o) }
 unfolding call settle
 call-is m o s e = rw e
 
@@ -44,7 +45,8 @@ answered-is m o a =
     let d = done-is (answer (m .state) o) a in
     d .1 ∙ ap (λ (x : Machine). done (x .state)) (sym (call-is m o (d .0) (d .1)))
 
-answered-called : (g : ℕ) {m : Machine} → Sane m → (o : Operation) → Chooses (m .state) o → answered (answer (m .state) o) ≡ true → Called g m o (call m o)
+answered-called : (g : ℕ) {m : Machine} → Sane m → (o : Operation) → Chooses (m .state) o → answered (answer (m .state) o) ≡ true →
+    Called g m o (call m o)
 answered-called g {m} x o ch a =
     let d = done-is (answer (m .state) o) a in
     rw (call-is m o (d .0) (d .1)) (called g x o ch (d .0) (d .1))
@@ -52,16 +54,36 @@ answered-called g {m} x o ch a =
 pub step-apart : {g : ℕ} {R R′ : Frames} {y z y′ z′ : Machine} → Apart g R y z R′ y′ z′ → Seen g R y z → Seen g R′ y′ z′
 step-apart {g} (first-calls {R} {y} {z} o ch w) p =
     let u = called-unseen g (p .first) o ch w in
-    record { first = sane-called (p .first) o ch; second = p .second; covers = covers-unseen g R u (unseen-same g z) (p .covers); back = covers-unseen g (flip R) (unseen-same g z) u (p .back) }
+    record {
+      first = sane-called (p .first) o ch;
+      second = p .second;
+      covers = covers-unseen g R u (unseen-same g z) (p .covers);
+      back = covers-unseen g (flip R) (unseen-same g z) u (p .back);
+    }
 step-apart {g} (second-calls {R} {y} {z} o ch w) p =
     let u = called-unseen g (p .second) o ch w in
-    record { first = p .first; second = sane-called (p .second) o ch; covers = covers-unseen g R (unseen-same g y) u (p .covers); back = covers-unseen g (flip R) u (unseen-same g y) (p .back) }
+    record {
+      first = p .first;
+      second = sane-called (p .second) o ch;
+      covers = covers-unseen g R (unseen-same g y) u (p .covers);
+      back = covers-unseen g (flip R) u (unseen-same g y) (p .back);
+    }
 step-apart {g} (first-stores {R} {y} {z} h f o x r e) p =
     let u = written-unseen g (p .first) r e in
-    record { first = sane-written (p .first) r; second = p .second; covers = covers-unseen g R u (unseen-same g z) (p .covers); back = covers-unseen g (flip R) (unseen-same g z) u (p .back) }
+    record {
+      first = sane-written (p .first) r;
+      second = p .second;
+      covers = covers-unseen g R u (unseen-same g z) (p .covers);
+      back = covers-unseen g (flip R) (unseen-same g z) u (p .back);
+    }
 step-apart {g} (second-stores {R} {y} {z} h f o x r e) p =
     let u = written-unseen g (p .second) r e in
-    record { first = p .first; second = sane-written (p .second) r; covers = covers-unseen g R (unseen-same g y) u (p .covers); back = covers-unseen g (flip R) u (unseen-same g y) (p .back) }
+    record {
+      first = p .first;
+      second = sane-written (p .second) r;
+      covers = covers-unseen g R (unseen-same g y) u (p .covers);
+      back = covers-unseen g (flip R) u (unseen-same g y) (p .back);
+    }
 step-apart {g} (both-store {R} {y} {z} h h′ f f′ o x r r′ w) p = record {
   first = sane-written (p .first) r;
   second = sane-written (p .second) r′;
@@ -74,9 +96,12 @@ step-apart {g} (both-call {R} {y} {z} o o′ ch ch′ a a′ ma) p = record {
   first = sy;
   second = sz;
   covers = covers-again g R y z (p .covers) (p .back) ma (call y o) (call z o′) (answered-is y o a) (answered-is z o′ a′) sy sz cy cz;
-  back = covers-iff g (after g (flip R) o′ o (call z o′ .state) (call y o .state)) (flip (after g R o o′ (call y o .state) (call z o′ .state))) (call z o′) (call y o)
-      (λ f f′ x. (elim (x .0) [ inl w ↦ inl w | inr w ↦ inr (w .1, w .0) ], x .2, x .1)) (λ f f′ x. (elim (x .0) [ inl w ↦ inl w | inr w ↦ inr (w .1, w .0) ], x .2, x .1))
-      (covers-again g (flip R) z y (p .back) (p .covers) (mirror g R (y .state) (z .state) ma) (call z o′) (call y o) (answered-is z o′ a′) (answered-is y o a) sz sy cz cy);
+  back = covers-iff g (after g (flip R) o′ o (call z o′ .state) (call y o .state))
+      (flip (after g R o o′ (call y o .state) (call z o′ .state))) (call z o′) (call y o)
+      (λ f f′ x. (elim (x .0) [ inl w ↦ inl w | inr w ↦ inr (w .1, w .0) ], x .2, x .1))
+      (λ f f′ x. (elim (x .0) [ inl w ↦ inl w | inr w ↦ inr (w .1, w .0) ], x .2, x .1))
+      (covers-again g (flip R) z y (p .back) (p .covers) (mirror g R (y .state) (z .state) ma) (call z o′) (call y o)
+      (answered-is z o′ a′) (answered-is y o a) sz sy cz cy);
 }
   where
     sy : Sane (call y o)
@@ -121,7 +146,13 @@ not-dirty : {m : Machine} → SetUp m → (g : ℕ) → m .state .dirty g ≡ fa
 not-dirty {m} x g = ap (λ (s : State). s .dirty g) (nothing-yet x) ∙ (unfold started in refl)
 
 sane-start : {m : Machine} → SetUp m → Sane m
-sane-start {m} x = record { start = m; set-up = x; run = stop; closed = set-up-closed x; recalls = record { drained-entry = λ t g v f r a b. absurd (no-draining x t g 0 (v / 512) a) } }
+sane-start {m} x = record {
+  start = m;
+  set-up = x;
+  run = stop;
+  closed = set-up-closed x;
+  recalls = record { drained-entry = λ t g v f r a b. absurd (no-draining x t g 0 (v / 512) a) };
+}
 
 start-covers : (g : ℕ) {y z : Machine} → SetUp y → SetUp z → Covers g no-frames y z
 start-covers g {y} {z} x w = record {
@@ -142,20 +173,28 @@ start-covers g {y} {z} x w = record {
     none-kept e v a r k = rw e at k
 
 pub start-seen : (g : ℕ) {y z : Machine} → SetUp y → SetUp z → Seen g no-frames y z
-start-seen g x w = record { first = sane-start x; second = sane-start w; covers = start-covers g x w; back = covers-iff g no-frames (flip no-frames) _ _ (λ f f′ a. a) (λ f f′ a. a) (start-covers g w x) }
+start-seen g x w = record {
+  first = sane-start x;
+  second = sane-start w;
+  covers = start-covers g x w;
+  back = covers-iff g no-frames (flip no-frames) _ _ (λ f f′ a. a) (λ f f′ a. a) (start-covers g w x);
+}
 
 -- what the theorems say
-pub covers-reads : (g : ℕ) (R : Frames) {y z : Machine} → Sane y → Covers g R y z → (v r : ℕ) (bytes : ℕ → ℕ) → Reads y g v r bytes → Reads z g v r bytes
+pub covers-reads : (g : ℕ) (R : Frames) {y z : Machine} → Sane y → Covers g R y z → (v r : ℕ) (bytes : ℕ → ℕ) → Reads y g v r bytes →
+    Reads z g v r bytes
 covers-reads g R {y} {z} x c v r bytes a =
     let w = c .kept v (a .0) r (x .closed .page-count g v (y .state .first + a .0) r (a .1)) in
     (w .0, kept (w .2), λ i l. sym (c .bytes (a .0) (w .0) (w .1) i l) ∙ a .2 i l)
 
-pub covers-reads-now : (g : ℕ) (R : Frames) {y z : Machine} → Covers g R y z → (v r : ℕ) (bytes : ℕ → ℕ) → Reads-now y g v r bytes → Reads-now z g v r bytes
+pub covers-reads-now : (g : ℕ) (R : Frames) {y z : Machine} → Covers g R y z → (v r : ℕ) (bytes : ℕ → ℕ) → Reads-now y g v r bytes →
+    Reads-now z g v r bytes
 covers-reads-now g R {y} {z} c v r bytes a =
     let w = c .now v (a .0) r (a .1) (a .2) in
     (w .0, a .1, w .2, λ i l. sym (c .bytes (a .0) (w .0) (w .1) i l) ∙ a .3 i l)
 
-pub covers-frames : (g : ℕ) (R : Frames) {y z : Machine} → Covers g R y z → (f : ℕ) → shown (y .state) g f ≡ true → (f′ : ℕ) × R f f′ × (shown (z .state) g f′ ≡ true) × Same-bytes (y .state) (z .state) f f′
+pub covers-frames : (g : ℕ) (R : Frames) {y z : Machine} → Covers g R y z → (f : ℕ) → shown (y .state) g f ≡ true →
+    (f′ : ℕ) × R f f′ × (shown (z .state) g f′ ≡ true) × Same-bytes (y .state) (z .state) f f′
 covers-frames g R {y} {z} c f e =
     let n = shown-role (y .state) g f e in
     let w = c .there f n in

@@ -34,7 +34,8 @@ run-on stop x = then x stop
 run-on (then a r) x = then a (run-on r x)
 
 -- a store leaves what drains
-stored-word : {m : Machine} → Holds m → {h f o x : ℕ} → Stores m h f o x → (t : ℕ) → tabled (m .state .kind t) ≡ true → (i : ℕ) → stored (m .state) f o x .word t i ≡ m .state .word t i
+stored-word : {m : Machine} → Holds m → {h f o x : ℕ} → Stores m h f o x → (t : ℕ) → tabled (m .state .kind t) ≡ true → (i : ℕ) →
+    stored (m .state) f o x .word t i ≡ m .state .word t i
 unfolding stored
 stored-word {m} k {h} {f} {o} {x} r t e i = upd2-other (m .state .word) f (o / 8) (put-byte (o % 8) (m .state .word f (o / 8)) x) t i
     (λ (p : t ≡ f) q. true≢false (sym e ∙ ap (λ (u : ℕ). tabled (m .state .kind u)) p ∙ stores-page k r))
@@ -55,10 +56,22 @@ written-recalls {m} y {h} {f} {o} {x} r = record {
 }
 
 pub sane-called : {m : Machine} → Sane m → (o : Operation) → Chooses (m .state) o → Sane (call m o)
-sane-called x o ch = record { start = x .start; set-up = x .set-up; run = run-on (x .run) (calls o ch); closed = step-closed (calls o ch); recalls = called-recalls x o ch }
+sane-called x o ch = record {
+  start = x .start;
+  set-up = x .set-up;
+  run = run-on (x .run) (calls o ch);
+  closed = step-closed (calls o ch);
+  recalls = called-recalls x o ch;
+}
 
 pub sane-written : {m : Machine} → Sane m → {h f o x : ℕ} → Stores m h f o x → Sane (write m f o x)
-sane-written y r = record { start = y .start; set-up = y .set-up; run = run-on (y .run) (stores-step r); closed = step-closed (stores-step r); recalls = written-recalls y r }
+sane-written y r = record {
+  start = y .start;
+  set-up = y .set-up;
+  run = run-on (y .run) (stores-step r);
+  closed = step-closed (stores-step r);
+  recalls = written-recalls y r;
+}
 
 -- what g sees of the tables, of what is kept and of its frames is as before
 pub record Same-view (g : ℕ) (m m′ : Machine) : Type 0 where
@@ -88,7 +101,8 @@ written-view g {m} y {h} {f} {o} {x} r = record {
     c = sane-holds y .core
 
     entries : (t n h′ p : ℕ) → m .state .kind t ≡ table n h′ p → (i : ℕ) → entry-at (stored (m .state) f o x) t i ≡ entry-at (m .state) t i
-    entries t n h′ p a i = ap (λ (z : ℕ). entry z (stored (m .state) f o x .word t i)) first= ∙ ap (entry (m .state .first)) (stored-word (sane-holds y) r t (ap tabled a) i)
+    entries t n h′ p a i = ap (λ (z : ℕ). entry z (stored (m .state) f o x .word t i)) first=
+        ∙ ap (entry (m .state .first)) (stored-word (sane-holds y) r t (ap tabled a) i)
       where
         first= : stored (m .state) f o x .first ≡ m .state .first
         first= = unfold stored in refl
@@ -99,7 +113,8 @@ written-view g {m} y {h} {f} {o} {x} r = record {
     back : (v x′ r′ : ℕ) → Translation (stored (m .state) f o x) (m .caches) g v x′ r′ → Translation (m .state) (m .caches) g v x′ r′
     back v x′ r′ a =
         let w = written (sane-holds y) r in
-        page-echo (reworded (m .state) (stored (m .state) f o x .word)) (m .caches) (rw is-reworded at (w .0)) (rw is-reworded at (w .1)) (m .state .word) (m .caches)
+        page-echo (reworded (m .state) (stored (m .state) f o x .word)) (m .caches) (rw is-reworded at (w .0)) (rw is-reworded at (w .1))
+        (m .state .word) (m .caches)
         (λ t e i. sym (stored-word (sane-holds y) r t e i)) (λ g h p x a. a) (λ g v x r a. a) g (rw is-reworded at a)
 
 -- An answered operation, as g sees it.
@@ -107,11 +122,14 @@ pub record Called (g : ℕ) (m : Machine) (o : Operation) (m′ : Machine) : Typ
   pub turns : Turns g (m .state) o (m′ .state)
   pub now : (v : ℕ) → v < page-count → translate (m′ .state) g v ≡ expected (m .state) o g v
   pub was-kept : (v f r : ℕ) → m′ .caches .page-kept g v (m′ .state .first + f) r →
-      ((reported g o ≡ false) × m .caches .page-kept g v (m .state .first + f) r) ⊎ ((v < page-count) × (translate (m′ .state) g v ≡ some (f, r)))
-  pub still-kept : (v f r : ℕ) → reported g o ≡ false → m .caches .page-kept g v (m .state .first + f) r → m′ .caches .page-kept g v (m′ .state .first + f) r
+      ((reported g o ≡ false) × m .caches .page-kept g v (m .state .first + f) r) ⊎
+      ((v < page-count) × (translate (m′ .state) g v ≡ some (f, r)))
+  pub still-kept : (v f r : ℕ) → reported g o ≡ false → m .caches .page-kept g v (m .state .first + f) r →
+      m′ .caches .page-kept g v (m′ .state .first + f) r
   pub bytes : Bytes-stay g m m′
 
-role-sort : (g : ℕ) (x : Frame-kind) (how : ℕ) → (role g x how ≡ 0 → ⊥) → (eqb FREE (kind-number x) ≡ false) × (eqb TABLE (kind-number x) ≡ false)
+role-sort : (g : ℕ) (x : Frame-kind) (how : ℕ) → (role g x how ≡ 0 → ⊥) →
+    (eqb FREE (kind-number x) ≡ false) × (eqb TABLE (kind-number x) ≡ false)
 role-sort g monitor how n = absurd (n refl)
 role-sort g free how n = absurd (n refl)
 role-sort g (table h l p) how n = absurd (n refl)
@@ -119,17 +137,20 @@ role-sort g (draining-table h l p) how n = absurd (n refl)
 role-sort g (page h) how n = (refl, refl)
 role-sort g (draining-page h) how n = (refl, refl)
 
-pub called : (g : ℕ) {m : Machine} (x : Sane m) (o : Operation) (ch : Chooses (m .state) o) (s′ : State) (e : answer (m .state) o ≡ done s′) → Called g m o (record { state = s′; caches = grown s′ (keeps (m .caches) o) })
+pub called : (g : ℕ) {m : Machine} (x : Sane m) (o : Operation) (ch : Chooses (m .state) o) (s′ : State)
+    (e : answer (m .state) o ≡ done s′) → Called g m o (record { state = s′; caches = grown s′ (keeps (m .caches) o) })
 unfolding grown
 called g {m} x o ch s′ e = record {
   turns = then-is (answer (m .state) o) s′ (answer-turns g (m .state) c o ch) e;
   now = λ v l. then-is (answer (m .state) o) s′ (rows (m .state) c o ch) e g v l;
-  was-kept = λ v f r a. elim (found-is s′ (keeps (m .caches) o) (z .core) (z .kept) linked g (λ t v f r. stale-kept x o ch s′ e t g v f r) a f refl) [
-    | inl b ↦ let y = kept-before (m .caches) o g v (s′ .first + f) r b in inl (y .0, rw first= at (y .1))
-    | inr b ↦ inr b
-  ];
+  was-kept = λ v f r a. elim (found-is s′ (keeps (m .caches) o) (z .core) (z .kept) linked g (λ t v f r. stale-kept x o ch s′ e t g v f r)
+      a f refl) [
+        | inl b ↦ let y = kept-before (m .caches) o g v (s′ .first + f) r b in inl (y .0, rw first= at (y .1))
+        | inr b ↦ inr b
+      ];
   still-kept = λ v f r n a. rw first= (kept (kept-after (m .caches) o g v (m .state .first + f) r n a));
-  bytes = λ f n. let q = role-sort g (m .state .kind f) (m .state .shared f g) n in λ i l. bytes-stay (m .state) c o ch s′ e f (m .state .kind f) refl (q .0) (q .1) i;
+  bytes = λ f n. let q = role-sort g (m .state .kind f) (m .state .shared f g) n in λ i l. bytes-stay (m .state) c o ch s′ e f
+      (m .state .kind f) refl (q .0) (q .1) i;
 }
   where
     c : Core (m .state)
@@ -221,7 +242,11 @@ apart-unseen g {m} x o m′ e z = record {
     dirty = z .turns .dirty ∙ apart-dirty g (m .state .dirty g) o e;
     now = λ v l. z .now v l ∙ apart-expected g (m .state) o e v;
     kept = λ v f r. (
-      λ a. elim (z .was-kept v f r a) [ inl b ↦ b .1 | inr b ↦ now-kept x g v f r (b .0) (sym (z .now v (b .0) ∙ apart-expected g (m .state) o e v) ∙ b .1) ],
+      λ a. elim (z .was-kept v f r a) [
+        | inl b ↦ b .1
+        | inr b ↦ now-kept x g v f r (b .0)
+            (sym (z .now v (b .0) ∙ apart-expected g (m .state) o e v) ∙ b .1)
+      ],
       λ a. z .still-kept v f r (apart-reported g o e) a,
     );
   };
@@ -231,17 +256,25 @@ apart-unseen g {m} x o m′ e z = record {
 refused-unseen : (g : ℕ) {m : Machine} → Sane m → Unseen g m (record { state = m .state; caches = grown (m .state) (m .caches) })
 unfolding grown
 refused-unseen g {m} x = record {
-  view = record { roles = λ f. refl; dirty = refl; now = λ v l. refl; kept = λ v f r. (λ a. x .closed .page-count g v (m .state .first + f) r a, λ a. kept a) };
+  view = record {
+    roles = λ f. refl;
+    dirty = refl;
+    now = λ v l. refl;
+    kept = λ v f r. (λ a. x .closed .page-count g v (m .state .first + f) r a, λ a. kept a);
+  };
   bytes = λ f n i l. refl;
 }
 
-pub called-unseen : (g : ℕ) {m : Machine} → Sane m → (o : Operation) → Chooses (m .state) o → (concerns g o ≡ false) ⊎ (answered (answer (m .state) o) ≡ false) → Unseen g m (call m o)
+pub called-unseen : (g : ℕ) {m : Machine} → Sane m → (o : Operation) → Chooses (m .state) o →
+    (concerns g o ≡ false) ⊎ (answered (answer (m .state) o) ≡ false) → Unseen g m (call m o)
 unfolding call
 called-unseen g {m} x o ch w = go (answer (m .state) o) refl w
   where
-    go : (y : Out) → answer (m .state) o ≡ y → (concerns g o ≡ false) ⊎ (answered y ≡ false) → Unseen g m (settle m (keeps (m .caches) o) y)
+    go : (y : Out) → answer (m .state) o ≡ y → (concerns g o ≡ false) ⊎ (answered y ≡ false) →
+        Unseen g m (settle m (keeps (m .caches) o) y)
     go (refuse n) e w = unfold settle in refused-unseen g x
-    go (done s′) e (inl a) = unfold settle in apart-unseen g x o (record { state = s′; caches = grown s′ (keeps (m .caches) o) }) a (called g x o ch s′ e)
+    go (done s′) e (inl a) = unfold settle in apart-unseen g x o (record { state = s′; caches = grown s′ (keeps (m .caches) o) }) a
+        (called g x o ch s′ e)
     go (done s′) e (inr a) = let z : _≡_ {A = ℕ} 0 1 = cc in absurd (omega arith)
 
 -- a store to a frame that is not shown to g
@@ -277,10 +310,13 @@ shown-role s g f e n = true≢false (sym e ∙ reads-role g (s .kind f) (s .shar
 
 pub stored-apart : (s : State) (f o x u : ℕ) → (u ≡ f → ⊥) → Same-bytes (stored s f o x) s u u
 unfolding stored byte
-stored-apart s f o x u n i l = ap (byte-of (i % 8)) (upd2-other (s .word) f (o / 8) (put-byte (o % 8) (s .word f (o / 8)) x) u (i / 8) (λ p q. n p))
+stored-apart s f o x u n i l = ap (byte-of (i % 8)) (upd2-other (s .word) f (o / 8) (put-byte (o % 8) (s .word f (o / 8)) x) u (i / 8)
+    (λ p q. n p))
 
-pub written-unseen : (g : ℕ) {m : Machine} → Sane m → {h f o x : ℕ} → Stores m h f o x → shown (m .state) g f ≡ false → Unseen g m (write m f o x)
+pub written-unseen : (g : ℕ) {m : Machine} → Sane m → {h f o x : ℕ} → Stores m h f o x → shown (m .state) g f ≡ false →
+    Unseen g m (write m f o x)
 written-unseen g {m} y {h} {f} {o} {x} r e = record {
   view = written-view g y r;
-  bytes = λ u n. unfold write in stored-apart (m .state) f o x u (λ (p : u ≡ f). n (ap (role-of (m .state) g) p ∙ not-shown (m .state) g f e));
+  bytes = λ u n. unfold write in stored-apart (m .state) f o x u
+      (λ (p : u ≡ f). n (ap (role-of (m .state) g) p ∙ not-shown (m .state) g f e));
 }

@@ -33,10 +33,12 @@ pub halves-apart : {g : ℕ} {R R′ : Frames} {y z y′ z′ : Machine} → Run
 halves-apart stop-apart = (stop, stop)
 halves-apart (then-apart (first-calls-apart o ch e) r) = let w = halves-apart r in (then (calls o ch) (w .0), w .1)
 halves-apart (then-apart (second-calls-apart o ch e) r) = let w = halves-apart r in (w .0, then (calls o ch) (w .1))
-halves-apart (then-apart (both-call-apart o o′ ch ch′ a b m) r) = let w = halves-apart r in (then (calls o ch) (w .0), then (calls o′ ch′) (w .1))
+halves-apart (then-apart (both-call-apart o o′ ch ch′ a b m) r) = let w =
+    halves-apart r in (then (calls o ch) (w .0), then (calls o′ ch′) (w .1))
 halves-apart (then-apart (first-stores-apart h f o x a e) r) = let w = halves-apart r in (then (stores-step a) (w .0), w .1)
 halves-apart (then-apart (second-stores-apart h f o x a e) r) = let w = halves-apart r in (w .0, then (stores-step a) (w .1))
-halves-apart (then-apart (both-store-apart h h′ f f′ o x a b e) r) = let w = halves-apart r in (then (stores-step a) (w .0), then (stores-step b) (w .1))
+halves-apart (then-apart (both-store-apart h h′ f f′ o x a b e) r) = let w =
+    halves-apart r in (then (stores-step a) (w .0), then (stores-step b) (w .1))
 
 -- every run beside itself
 pub beside : (g : ℕ) {y z : Machine} → Run y z → Two-runs g y y z z
@@ -72,7 +74,8 @@ module _ (g : ℕ) (s : State) where
     where
       was : Then (λ s′. (s .kind f ≡ page o) × (0 < s .shared f g)) (answer s (Unshare o f g))
       was = unfold answer unshare in checked 5 λ e1. checked 4 λ e2. checked 9 λ e3. checked 13 λ e4. checked 14 λ e5.
-          let w = and-true (is-page-of (s .kind f) o) (ltb 0 (s .shared f g)) e3 in then-done (page-of-is (s .kind f) o (w .0), ltb-true 0 (s .shared f g) (w .1))
+          let w = and-true (is-page-of (s .kind f) o) (ltb 0 (s .shared f g)) e3 in then-done
+          (page-of-is (s .kind f) o (w .0), ltb-true 0 (s .shared f g) (w .1))
 
 -- each frame corresponds to itself
 module _ (g : ℕ) (R : Frames) (m : Machine) (p : Seen g R m m) (same : (f f′ : ℕ) → R f f′ → f ≡ f′) where
@@ -86,11 +89,16 @@ module _ (g : ℕ) (R : Frames) (m : Machine) (p : Seen g R m m) (same : (f f′
   match-itself (Create h pick) e s′ d = let q = eqb-true h g e in rw q creates
   match-itself (Give f h) e s′ d = let q = eqb-true h g e in rw q gives
   match-itself (Take f h) e s′ d = let q = eqb-true h g e in rw q (takes (itself f (taken-role g (m .state) f s′ (rw q at d))))
-  match-itself (Map f h a r pick) e s′ d = let q = eqb-true h g e in rw q (maps (itself f (mapped-role g (m .state) f a r pick s′ (rw q at d))))
+  match-itself (Map f h a r pick) e s′ d = let q = eqb-true h g e in rw q
+      (maps (itself f (mapped-role g (m .state) f a r pick s′ (rw q at d))))
   match-itself (Unmap a h) e s′ d = let q = eqb-true h g e in rw q unmaps
   match-itself (Share o f h w) e s′ d =
       let q = eqb-true h g e in
-      rw q (elim (bool? (shown (m .state) g f)) [ inl x ↦ lends (inl (itself f (shown-role (m .state) g f x))) | inr x ↦ lends (inr (x, x, λ i l. refl)) ])
+      rw q (elim (bool? (shown (m .state) g f)) [
+        | inl x ↦ lends (inl (itself f (shown-role (m .state) g f x)))
+        | inr x ↦ lends
+            (inr (x, x, λ i l. refl))
+      ])
   match-itself (Unshare o f h) e s′ d = let q = eqb-true h g e in rw q (unlends (itself f (unlent-role g (m .state) o f s′ (rw q at d))))
   match-itself (Destroy h) e s′ d = let q = eqb-true h g e in rw q destroys
   match-itself (Invalidated h) e s′ d = let q = eqb-true h g e in rw q reports
@@ -98,9 +106,11 @@ module _ (g : ℕ) (R : Frames) (m : Machine) (p : Seen g R m m) (same : (f f′
 abbrev Beside-itself : (g : ℕ) → Frames → Machine → Machine → Type 1
 Beside-itself g R y z = (R′ : Frames) × Runs-apart g R y y R′ z z
 
-beside-apart-from : (g : ℕ) {y z : Machine} → Run y z → (R : Frames) → Seen g R y y → ((f f′ : ℕ) → R f f′ → f ≡ f′) → Beside-itself g R y z
+beside-apart-from : (g : ℕ) {y z : Machine} → Run y z → (R : Frames) → Seen g R y y → ((f f′ : ℕ) → R f f′ → f ≡ f′) →
+    Beside-itself g R y z
 beside-apart-from g stop R p same = (R, stop-apart)
-beside-apart-from g {z = z} (then (calls {m} o ch) r) R p same = go (beside-apart-from g r) (answered (answer (m .state) o)) refl (concerns g o) refl
+beside-apart-from g {z = z} (then (calls {m} o ch) r) R p same =
+    go (beside-apart-from g r) (answered (answer (m .state) o)) refl (concerns g o) refl
   where
     IH : Type 1
     IH = (R : Frames) → Seen g R (call m o) (call m o) → ((f f′ : ℕ) → R f f′ → f ≡ f′) → Beside-itself g R (call m o) z

@@ -116,7 +116,8 @@ module _ (s : State.State) (c : Core s) (n : Ended s) (k : Core.Core (view s)) w
             ∙ same-space (closed (view s .space g)) (view (without-guest s g) .space d) (sym (upd-at (s .exists) g false d i))
             (sym i) refl refl (ap (s .root) (sym i))
         | inr i ↦ upd-other (view s .space) g (closed (view s .space g)) d i
-            ∙ same-space (view s .space d) (view (without-guest s g) .space d) (sym (upd-other (s .exists) g false d i)) refl refl refl refl
+            ∙ same-space (view s .space d) (view (without-guest s g) .space d) (sym (upd-other (s .exists) g false d i)) refl refl refl
+            refl
       ]
 
   -- destroy's check of one page

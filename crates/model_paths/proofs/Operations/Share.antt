@@ -74,7 +74,8 @@ module _ (s : State.State) (c : Core s) (n : Ended s) where
       s .shared f h ≤ cond (eqb w 0) 1 2 ⊎ (leb 2 (s .shared f h) ≡ true) × (eqb w 0 ≡ false)
   not-narrow f h w e = go (leb 2 (s .shared f h)) (eqb w 0) refl refl e
     where
-      go : (a b : Bool) → leb 2 (s .shared f h) ≡ a → eqb w 0 ≡ b → (a && b) ≡ false → s .shared f h ≤ cond b 1 2 ⊎ (a ≡ true) × (b ≡ false)
+      go : (a b : Bool) → leb 2 (s .shared f h) ≡ a → eqb w 0 ≡ b → (a && b) ≡ false →
+          s .shared f h ≤ cond b 1 2 ⊎ (a ≡ true) × (b ≡ false)
       go true true p q e = absurd (true≢false e)
       go true false p q e = inr (refl, refl)
       go false true p q e = inl (let x = leb-false 2 (s .shared f h) p in omega arith)

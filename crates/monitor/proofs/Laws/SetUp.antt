@@ -73,7 +73,11 @@ module _ (b n k : ℕ) (m l : List ℕ) where
 
     pub set-up-end : (l′ : List ℕ) → Laid-out b n k l′ → SetUp b n k m l 0 l′
     set-up-end l′ x = record {
-      sound = λ _. record { ledger-sound = x .ledger-sound; ram-fits = fits; core = rw (x .state m) (started-core n k b (word-of m) room) };
+      sound = λ _. record {
+        ledger-sound = x .ledger-sound;
+        ram-fits = fits;
+        core = rw (x .state m) (started-core n k b (word-of m) room);
+      };
       outcome = rw made (refl, x .state m);
     }
       where

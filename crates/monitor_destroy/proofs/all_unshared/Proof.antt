@@ -30,7 +30,8 @@ unshared-requires c κs = (c .before .before .before .before .before .pre .0, (o
 
 returns : tie.Need-returns Inv-loop μ-loop
 unfolding state-in
-returns c = sym (all-false (size-of (c .before .before .before .before .before .before .before .args .ledger .now)) ((λ f. unshared (state-of (c .before .before .before .before .before .before .before .args .ram .now) (c .before .before .before .before .before .before .before .args .ledger .now)) f (c .before .before .before .before .before .before .before .args .g))) (c .before .before .before .loop .f) (omega (arith, c .before .before .before .before .size .ensures .0, c .before .before .loop-test .taken))
+returns c = sym (all-false (size-of (c .before .before .before .before .before .before .before .args .ledger .now)) ((λ f. unshared (state-of (c .before .before .before .before .before .before .before .args .ram .now) (c .before .before .before .before .before .before .before .args .ledger .now)) f (c .before .before .before .before .before .before .before .args .g))) (c .before .before .before .loop .f)
+    (omega (arith, c .before .before .before .before .size .ensures .0, c .before .before .loop-test .taken))
     (sym (c .before .unshared .ensures) ∙ not-true _ (c .if1 .taken)))
 
 add-f : tie.Need-add-f Inv-loop μ-loop

@@ -36,7 +36,10 @@ module _ (m : List ℕ) (b root2 access : ℕ) where
         (λ ipa low. through-within (λ kind level. fault kind 2 level) (λ a. ends (found a)) 0 (λ kind level. tt)
         (stage-2 m b root2 access ipa)
         (stage-2-short m b access ipa root2 .few)
-        (λ a at. record { bounds = (subst Low-result at (stage-2-short m b access ipa root2 .bounds), (ipa, low, at)); few = omega arith }))
+        (λ a at. record {
+          bounds = (subst Low-result at (stage-2-short m b access ipa root2 .bounds), (ipa, low, at));
+          few = omega arith;
+        }))
         (fetch-1 m b root2) 5
         (λ level ipa most next h. wider (omega arith) (through-within (λ kind level2. during kind level2 level)
         (λ a. fetched-at a (read-at m b a) (ends (fault WalkAbort 1 level)) next) (1 + most) (λ kind level. tt)

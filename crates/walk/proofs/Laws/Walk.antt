@@ -168,7 +168,8 @@ module _ {m : List ℕ} {b root2 access el va level table n : ℕ} {way : Ended}
 
   pub followed : {a k : ℕ} → way ≡ Reached a k → {x : LevelOutcome}
       → Level-comes-to m b root2 access el va level (k + 1) (answered k (from-descriptor-1 m b root2 access el va level a)) x
-      → Level-comes-to m b root2 access el va level (n + most-by-level) (answered n (from-table-1 m b root2 access el va (last-level - level) table)) x
+      → Level-comes-to m b root2 access el va level (n + most-by-level)
+      (answered n (from-table-1 m b root2 access el va (last-level - level) table)) x
   followed {a} {k} e {x} turns = record { so = by-turn x (turns .so) }
     where
       by-turn : (y : LevelOutcome) → level-comes-to m b root2 access el va level (k + 1)
@@ -179,7 +180,8 @@ module _ {m : List ℕ} {b root2 access el va level table n : ℕ} {way : Ended}
       by-turn (NextTable t i) h = let low = way-low e .1 in let few = h .2 in (h .0, h .1, omega arith, at-end e .so ∙ h .3)
 
 -- stage 2 as the last part of stage 1
-by-last : (r : Stage-2-result) (k : ℕ) → answered k (by-result r (λ kind level. fault kind 2 level) (λ a. ends (found a))) ≡ as-answer-2 r k
+by-last : (r : Stage-2-result) (k : ℕ) → answered k (by-result r (λ kind level. fault kind 2 level) (λ a. ends (found a))) ≡
+    as-answer-2 r k
 by-last (reached a) k = count-now as-answer k (found a)
 by-last (failed kind level) k = count-now as-answer k (fault kind 2 level)
 
