@@ -149,8 +149,8 @@ uint64_t pageledger_both_stages(const uint8_t *ram, size_t ram_length, uint64_t 
  *   - the ledger, and frames that are tables or drain after having been tables: these functions, and nobody else;
  *   - pages, and those that drain: guests, where they reach them, at any time. A store during a call counts as made before it or
  *     after it: no operation reads a page, and one is written only to clear it before it is anybody's;
- *   - pages, free frames and the monitor's: the host too, between calls. (The proofs about sequences have no such step; what they
- *     rest on is tables and ledger.) What is the host's alone stands in the monitor's frames or outside RAM;
+ *   - pages, free frames and the monitor's: the host too, between calls. (The proofs about sequences have such steps, but for those
+ *     of what a guest reads.) What is the host's alone stands in the monitor's frames or outside RAM;
  *   - devices that access memory themselves: nothing of RAM. These tables are not theirs.
  *
  * Who may run. A guest runs only while it exists: before pageledger_destroy it has stopped on every core. It may run on any core
