@@ -66,7 +66,7 @@ stores x x' h f o b a = record { lives = a.lives; in_ram = a.in_ram; in_frame = 
 
 -- each step of the two is one of the model's
 module _ (g : ℕ) where
-  pub apart_is : {R R' : T.Frames} {x y x' y' : Slices} → Fit x → Fit y → Apart g R x y R' x' y' →
+  pub apart_is : {R : T.Frames} {x y : Slices} {R' : T.Frames} {x' y' : Slices} → Fit x → Fit y → Apart g R x y R' x' y' →
       T.Apart g R (machine x) (machine y) R' (machine x') (machine y')
   apart_is {R} {x} {y} {x'} hx hy (first_calls c r a quiet) =
       subst (λ (z : M.Machine). T.Apart g R (machine x) (machine y) R z (machine y)) (sym (after_call x x' c r a))
@@ -94,7 +94,7 @@ module _ (g : ℕ) where
       (T.both_store h h' f f' o b (stores x x' h f o b a) (stores y y' h' f' o b a') same))
 
 -- each of the two runs as in all other theorems, step by step
-firsts : {g : ℕ} {R R' : T.Frames} {x y x' y' : Slices} → Apart g R x y R' x' y' → S.Run x x'
+firsts : {g : ℕ} {R : T.Frames} {x y : Slices} {R' : T.Frames} {x' y' : Slices} → Apart g R x y R' x' y' → S.Run x x'
 firsts (first_calls c r a quiet) = S.then (called c r a) S.stop
 firsts (second_calls c r a quiet) = S.stop
 firsts (both_call c c' a b m) = S.then (called c 0 a) S.stop
@@ -102,7 +102,7 @@ firsts (first_stores h f o b a out) = S.then (stored h f o b a) S.stop
 firsts (second_stores h f o b a out) = S.stop
 firsts (both_store h h' f f' o b a a' same) = S.then (stored h f o b a) S.stop
 
-seconds : {g : ℕ} {R R' : T.Frames} {x y x' y' : Slices} → Apart g R x y R' x' y' → S.Run y y'
+seconds : {g : ℕ} {R : T.Frames} {x y : Slices} {R' : T.Frames} {x' y' : Slices} → Apart g R x y R' x' y' → S.Run y y'
 seconds (first_calls c r a quiet) = S.stop
 seconds (second_calls c r a quiet) = S.then (called c r a) S.stop
 seconds (both_call c c' a b m) = S.then (called c' 0 b) S.stop

@@ -61,10 +61,10 @@ store_two c (one d f f' o b l w w' k) = both _ _ (stored d d f f' o b l w w' k) 
 
 module _ (p : Program) (c : ℕ) where
   -- one act of each, from the same knowledge: they learn the same, and store the same
-  pub act_same : {R : Frames} {xs ys xs₁ ys₁ : List News} {y z y₁ z₁ : Machine} {k k' : Outcome} → xs ≡ ys → Paired c R y z → Bounded y →
+  pub act_same : {R : Frames} {y z : Machine} {xs ys xs₁ ys₁ : List News} {y₁ z₁ : Machine} {k k' : Outcome} → xs ≡ ys → Paired c R y z → Bounded y →
       Bounded z →
       Acts p c xs y k xs₁ y₁ → Acts p c ys z k' ys₁ z₁ → (k ≡ k') ⊎ SettledOn y z c (p xs) → (xs₁ ≡ ys₁) × Store R y z y₁ z₁
-  act_same {R} {xs} {ys} {y = y} {z = z} e q by bz (reads w v o f r i l a g) (reads w' v' o' f' r' i' l' a' g') alike =
+  act_same {R} {y} {z} {xs} {ys} e q by bz (reads w v o f r i l a g) (reads w' v' o' f' r' i' l' a' g') alike =
       let s = read_is i (ap p e ∙ i') in
       let b : At z c v (z.spaces.first + f') r' = rw s.0 a' in
       let d = (both_read q v (y.spaces.first + f) r (z.spaces.first + f') r' a b).1 in
@@ -76,7 +76,7 @@ module _ (p : Program) (c : ℕ) where
             ∙ ap (λ (t : List News). got (byte z.spaces f' o') ∷ t) e,
         nothing,
       )
-  act_same {R} {xs} {ys} {y = y} {z = z} e q by bz (writes v o b f r i l a g) (writes v' o' b' f' r' i' l' a' g') alike =
+  act_same {R} {y} {z} {xs} {ys} e q by bz (writes v o b f r i l a g) (writes v' o' b' f' r' i' l' a' g') alike =
       let s = write_is i (ap p e ∙ i') in
       let a'' : At z c v (z.spaces.first + f') r' = rw s.0 a' in
       let d = (both_read q v (y.spaces.first + f) r (z.spaces.first + f') r' a a'').1 in
@@ -91,19 +91,19 @@ module _ (p : Program) (c : ℕ) where
   act_same e q by bz (writes v o b f r i l a g) (reads w' v' o' f' r' i' l' a' g') alike = absurd (not_both (ap p e ∙ i') i)
   act_same e q by bz (faults w v n un) (faults w' v' n' un') alike = (ap (λ (t : List News). fault ∷ t) e, nothing)
   act_same {y = y} {z = z} e q by bz (reads w v o f r i l a g) (faults w' v' n un) (inl k) = absurd (not_same k)
-  act_same {xs = xs} {ys = ys} {y = y} {z = z} e q by bz (reads w v o f r i l a g) (faults w' v' n un) (inr s) =
+  act_same {y = y} {z = z} {xs = xs} {ys = ys} e q by bz (reads w v o f r i l a g) (faults w' v' n un) (inr s) =
       let m : Needs (p xs) w v = rw i (refl, refl) in
       absurd (clashes q bz (p xs) w v (y.spaces.first + f) r m (settled_at y z c (p xs) w v m s).1 a g w' v' (rw e n) un)
   act_same e q by bz (writes v o b f r i l a g) (faults w' v' n un) (inl k) = absurd (not_same k)
-  act_same {xs = xs} {ys = ys} {y = y} {z = z} e q by bz (writes v o b f r i l a g) (faults w' v' n un) (inr s) =
+  act_same {y = y} {z = z} {xs = xs} {ys = ys} e q by bz (writes v o b f r i l a g) (faults w' v' n un) (inr s) =
       let m : Needs (p xs) writing v = rw i (refl, refl) in
       absurd (clashes q bz (p xs) writing v (y.spaces.first + f) r m (settled_at y z c (p xs) writing v m s).1 a g w' v' (rw e n) un)
   act_same e q by bz (faults w' v' n un) (reads w v o f r i l a g) (inl k) = absurd (not_same (sym k))
-  act_same {xs = xs} {ys = ys} {y = y} {z = z} e q by bz (faults w' v' n un) (reads w v o f r i l a g) (inr s) =
+  act_same {y = y} {z = z} {xs = xs} {ys = ys} e q by bz (faults w' v' n un) (reads w v o f r i l a g) (inr s) =
       let m : Needs (p xs) w v = rw (ap p e ∙ i) (refl, refl) in
       absurd (clashes (turned q) by (p xs) w v (z.spaces.first + f) r m (settled_at y z c (p xs) w v m s).0 a g w' v' n un)
   act_same e q by bz (faults w' v' n un) (writes v o b f r i l a g) (inl k) = absurd (not_same (sym k))
-  act_same {xs = xs} {ys = ys} {y = y} {z = z} e q by bz (faults w' v' n un) (writes v o b f r i l a g) (inr s) =
+  act_same {y = y} {z = z} {xs = xs} {ys = ys} e q by bz (faults w' v' n un) (writes v o b f r i l a g) (inr s) =
       let m : Needs (p xs) writing v = rw (ap p e ∙ i) (refl, refl) in
       absurd (clashes (turned q) by (p xs) writing v (z.spaces.first + f) r m (settled_at y z c (p xs) writing v m s).0 a g w' v' n un)
 

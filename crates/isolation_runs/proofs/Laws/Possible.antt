@@ -53,7 +53,7 @@ module _ (x : Slices) (h : Fit x) (c : Call) (r : ℕ) (ram ledger : List ℕ) (
       go : (u : Out) → defined c (state_of x.ram x.ledger) (pick_of x.ledger) ≡ u → Outcome u x.ram x.ledger r ram ledger →
           Goes (state_of x.ram x.ledger) (in_model c (pick_of x.ledger)) (state_of ram ledger)
       go (refuse n) e o = subst (λ (t : State). Goes (state_of x.ram x.ledger) (in_model c (pick_of x.ledger)) t)
-          (sym (ap (λ (m : List ℕ). state_of m ledger) o.1 ∙ ap (λ (l : List ℕ). state_of x.ram l) o.2)) stay
+          (sym (ap (λ (m : List ℕ). state_of m ledger) o.1 ∙ ap (λ (l : List ℕ). state_of x.ram l) o.2)) (stay (Does (state_of x.ram x.ledger) (in_model c (pick_of x.ledger))))
       go (done s) e o = subst (λ (t : State). Goes (state_of x.ram x.ledger) (in_model c (pick_of x.ledger)) t) (sym o.1)
           (then_is (M.answer (state_of x.ram x.ledger) (in_model c (pick_of x.ledger))) s
           (ready_goes (state_of x.ram x.ledger) (fit_ready h) (in_model c (pick_of x.ledger)) (chosen_so x h.sound c))

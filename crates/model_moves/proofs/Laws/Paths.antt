@@ -25,21 +25,21 @@ along_more (move m p) more x = (more (deed m) x.0, along_more p more x.1)
 along_more (report c R F r p) more x = (more (tells c) x.0, along_more p more x.1)
 
 -- ways, deed by deed
-pub stay : {D : Deed → Type 0} {s : Spaces} → Way D s s
-stay = (here, tt)
+pub stay : (D : Deed → Type 0) {s : Spaces} → Way D s s
+stay D = (here, tt)
 
-pub by : {D : Deed → Type 0} {s s' z : Spaces} (m : Move s s') → D (deed m) → Way D s' z → Way D s z
-by m d w = (move m w.0, (d, w.1))
+pub by : (D : Deed → Type 0) {s s' z : Spaces} (m : Move s s') → D (deed m) → Way D s' z → Way D s z
+by D m d w = (move m w.0, (d, w.1))
 
-pub telling : {D : Deed → Type 0} {s z : Spaces} (c : ℕ) (R E : ℕ → Bool) (r : Report s c R E) → D (tells c) →
+pub telling : (D : Deed → Type 0) {s z : Spaces} (c : ℕ) (R E : ℕ → Bool) (r : Report s c R E) → D (tells c) →
     Way D (reported s c E) z → Way D s z
-telling c R E r d w = (report c R E r w.0, (d, w.1))
+telling D c R E r d w = (report c R E r w.0, (d, w.1))
 
-pub onward : {D : Deed → Type 0} {a b c : Spaces} → Way D a b → Way D b c → Way D a c
-onward {D} x y = (append x.0 y.0, append_along D x.0 y.0 x.1 y.1)
+pub onward : (D : Deed → Type 0) {a b c : Spaces} → Way D a b → Way D b c → Way D a c
+onward D x y = (append x.0 y.0, append_along D x.0 y.0 x.1 y.1)
 
-pub way_to : {D : Deed → Type 0} {a b c : Spaces} → Way D a b → b ≡ c → Way D a c
-way_to {D} {a} w e = subst (λ z. Way D a z) e w
+pub way_to : (D : Deed → Type 0) {a b c : Spaces} → Way D a b → b ≡ c → Way D a c
+way_to D {a} w e = subst (λ z. Way D a z) e w
 
 pub way_more : {D E : Deed → Type 0} {a b : Spaces} → ((d : Deed) → D d → E d) → Way D a b → Way E a b
 way_more more w = (w.0, along_more w.0 more w.1)

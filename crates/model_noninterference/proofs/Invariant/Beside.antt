@@ -12,7 +12,7 @@ use Rattle.model.specs.State.{State, page, is_page_of}
 use Rattle.model.specs.Operations.{done, map, unshare, take}
 use Rattle.model.specs.Machine.{Machine, Operation, Create, Give, Take, Map, Unmap, Share, Unshare, Destroy, Invalidated, answer, call, write, calls, stores, Run, stop, then, SetUp}
 use Rattle.model_noninterference.specs.TwoRunsTerms.{shown, answered, Stores, both_call, both_store, first_stores, second_stores, TwoRuns, stop as stop_two, then as then_two}
-use Rattle.model_noninterference.specs.ApartTerms.{concerns, Frames, Matches, creates, gives, takes, maps, unmaps, lends, unlends, destroys, reports, brings, after, first_calls as first_calls_apart, second_calls as second_calls_apart, both_call as both_call_apart, first_stores as first_stores_apart, second_stores as second_stores_apart, both_store as both_store_apart, RunsApart, stop as stop_apart, then as then_apart, no_frames}
+use Rattle.model_noninterference.specs.ApartTerms.{concerns, Frames, Matches, creates, gives, takes, maps, unmaps, lends, unlends, destroys, reports, brings, after, Apart, first_calls as first_calls_apart, second_calls as second_calls_apart, both_call as both_call_apart, first_stores as first_stores_apart, second_stores as second_stores_apart, both_store as both_store_apart, RunsApart, stop as stop_apart, then as then_apart, no_frames}
 use Rattle.model.proofs.Invariant.Kinds.{page_of_is}
 use Rattle.model.proofs.Invariant.Answer.{Then, then_done, then_is, checked, may_is}
 use Rattle.model_noninterference.proofs.Invariant.Alike.{stores_step}
@@ -29,16 +29,19 @@ halves (then_two (both_store h f o x a b) r) = let w = halves r in (then (stores
 halves (then_two (first_stores h f o x a e) r) = let w = halves r in (then (stores_step a) w.0, w.1)
 halves (then_two (second_stores h f o x a e) r) = let w = halves r in (w.0, then (stores_step a) w.1)
 
+-- a step of the two, before what is left of each half
+half_steps : {g : ℕ} {R : Frames} {y z : Machine} {R' : Frames} {y' z' a b : Machine} → Apart g R y z R' y' z' → Run y' a × Run z' b →
+    Run y a × Run z b
+half_steps (first_calls_apart o ch e) w = (then (calls o ch) w.0, w.1)
+half_steps (second_calls_apart o ch e) w = (w.0, then (calls o ch) w.1)
+half_steps (both_call_apart o o' ch ch' a b m) w = (then (calls o ch) w.0, then (calls o' ch') w.1)
+half_steps (first_stores_apart h f o x a e) w = (then (stores_step a) w.0, w.1)
+half_steps (second_stores_apart h f o x a e) w = (w.0, then (stores_step a) w.1)
+half_steps (both_store_apart h h' f f' o x a b e) w = (then (stores_step a) w.0, then (stores_step b) w.1)
+
 pub halves_apart : {g : ℕ} {R R' : Frames} {y z y' z' : Machine} → RunsApart g R y z R' y' z' → Run y y' × Run z z'
 halves_apart stop_apart = (stop, stop)
-halves_apart (then_apart (first_calls_apart o ch e) r) = let w = halves_apart r in (then (calls o ch) w.0, w.1)
-halves_apart (then_apart (second_calls_apart o ch e) r) = let w = halves_apart r in (w.0, then (calls o ch) w.1)
-halves_apart (then_apart (both_call_apart o o' ch ch' a b m) r) = let w =
-    halves_apart r in (then (calls o ch) w.0, then (calls o' ch') w.1)
-halves_apart (then_apart (first_stores_apart h f o x a e) r) = let w = halves_apart r in (then (stores_step a) w.0, w.1)
-halves_apart (then_apart (second_stores_apart h f o x a e) r) = let w = halves_apart r in (w.0, then (stores_step a) w.1)
-halves_apart (then_apart (both_store_apart h h' f f' o x a b e) r) = let w =
-    halves_apart r in (then (stores_step a) w.0, then (stores_step b) w.1)
+halves_apart (then_apart x r) = half_steps x (halves_apart r)
 
 -- every run beside itself
 pub beside : (g : ℕ) {y z : Machine} → Run y z → TwoRuns g y y z z

@@ -68,22 +68,22 @@ wiped_more w f n t i = elim (eq? t f) [
   ]
 ]
 
-pub wipe : {D : Deed → Type 0} (s : Spaces) (f : ℕ) → s.kind f ≡ free → D (puts f free) → (n : ℕ) →
+pub wipe : (D : Deed → Type 0) (s : Spaces) (f : ℕ) → s.kind f ≡ free → D (puts f free) → (n : ℕ) →
     Way D s (with_word s (wiped s.word f n))
-wipe s f e d zero =
-    way_to stay (same s (with_word s (wiped s.word f 0)) refl refl (λ f. refl) (λ f c. refl) (λ f c j. refl) (λ c. refl)
+wipe D s f e d zero =
+    way_to D (stay D) (same s (with_word s (wiped s.word f 0)) refl refl (λ f. refl) (λ f c. refl) (λ f c j. refl) (λ c. refl)
     (λ c j v. refl) none)
   where
     none : (t i : ℕ) → s.word t i ≡ wiped s.word f 0 t i
     none t i = elim (bool? (eqb t f)) [ inl e ↦ rw (e, le-ltb i 0 (omega arith)) | inr e ↦ rw e ]
-wipe {D} s f e d (suc n) = onward (wipe s f e d n) (by (put f n 0 (ap untabled e)) (subst D (ap (puts f) (sym e)) d) (way_to stay
+wipe D s f e d (suc n) = onward D (wipe D s f e d n) (by D (put f n 0 (ap untabled e)) (subst D (ap (puts f) (sym e)) d) (way_to D (stay D)
     (same (store (with_word s (wiped s.word f n)) f n 0) (with_word s (wiped s.word f (suc n))) refl refl (λ f. refl) (λ f c. refl)
     (λ f c j. refl) (λ c. refl) (λ c j v. refl) (wiped_more s.word f n))))
 
 -- a free frame is cleared: 512 stores
-pub clearing : {D : Deed → Type 0} (s : State.State) (f : ℕ) → s.kind f ≡ State.free → D (puts f free) →
+pub clearing : (D : Deed → Type 0) (s : State.State) (f : ℕ) → s.kind f ≡ State.free → D (puts f free) →
     Way D (view s) (with_word (view s) (words_of (upd s.word f (λ i. 0))))
-clearing s f e d = way_to (wipe (view s) f (ap use_of e) d 512)
+clearing D s f e d = way_to D (wipe D (view s) f (ap use_of e) d 512)
     (same (with_word (view s) (wiped (words_of s.word) f 512)) (with_word (view s) (words_of (upd s.word f (λ i. 0)))) refl refl
     (λ f. refl) (λ f c. refl) (λ f c j. refl) (λ c. refl) (λ c j v. refl) all)
   where

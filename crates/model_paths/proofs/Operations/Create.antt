@@ -31,7 +31,7 @@ module _ (s : State.State) (c : Core s) (n : Ended s) where
   create_path : (g t : ℕ) → s.exists g ≡ false → s.dirty g ≡ false → s.kind t ≡ State.free →
       Way (λ d. (d ≡ puts t free) ⊎ (d ≡ opens g)) (view s) (view (with_root s g t))
   unfolding with_root zeros
-  create_path g t no_g clean e = onward (clearing s t e (inl refl)) (by (open_space g new premises) (inr refl) (way_to stay
+  create_path g t no_g clean e = onward (λ d. (d ≡ puts t free) ⊎ (d ≡ opens g)) (clearing (λ d. (d ≡ puts t free) ⊎ (d ≡ opens g)) s t e (inl refl)) (by (λ d. (d ≡ puts t free) ⊎ (d ≡ opens g)) (open_space g new premises) (inr refl) (way_to (λ d. (d ≡ puts t free) ⊎ (d ≡ opens g)) (stay (λ d. (d ≡ puts t free) ⊎ (d ≡ opens g)))
       (same _ (view (with_root s g t)) refl refl kinds (λ f d. refl) waits spaces (λ d j v. refl) (λ f i. refl))))
     where
       new : Space

@@ -137,18 +137,18 @@ module _ (s : State.State) (c : Core s) (n : Ended s) where
   clean_rest : (g : ℕ) → Way (Does s (Invalidated g)) (turned (told g) (λ f. drains_for (s.kind f) g) free) (view (clean s g))
   unfolding clean
   clean_rest g = elim (bool? (s.exists g)) [
-    | inl l ↦ way_to stay (same _ (view (clean s g)) refl refl (λ f. kinds_there g f l) (λ f d. refl)
+    | inl l ↦ way_to (Does s (Invalidated g)) (stay (Does s (Invalidated g))) (same _ (view (clean s g)) refl refl (λ f. kinds_there g f l) (λ f d. refl)
         (λ f d j. waits_told g (s.kind f) d j) (λ d. refl) (stale_told g) (λ f i. refl))
-    | inr l ↦ by (dissolve g l (λ j v. stale_told g g j v
+    | inr l ↦ by (Does s (Invalidated g)) (dissolve g l (λ j v. stale_told g g j v
         ∙ and_false (eqb j whole_slot) (upd s.dirty g false g) (upd_at s.dirty g false g refl))) (inr (inr refl))
-        (way_to stay (same _ (view (clean s g)) refl refl (λ f. kinds_gone g f l) (λ f d. refl) (λ f d j. waits_told g (s.kind f) d j)
+        (way_to (Does s (Invalidated g)) (stay (Does s (Invalidated g))) (same _ (view (clean s g)) refl refl (λ f. kinds_gone g f l) (λ f d. refl) (λ f d j. waits_told g (s.kind f) d j)
         (λ d. refl) (stale_told g) (λ f i. refl)))
   ]
 
   clean_path : (g : ℕ) → Goes s (Invalidated g) (clean s g)
   clean_path g =
-      telling g (λ v. true) (λ j. eqb j whole_slot) (record { covered = λ j v a b. refl }) (inl refl)
-      (by (release (λ f. drains_for (s.kind f) g) (freed g)) (inr (inl (λ f. drains_for (s.kind f) g, refl))) (clean_rest g))
+      telling (Does s (Invalidated g)) g (λ v. true) (λ j. eqb j whole_slot) (record { covered = λ j v a b. refl }) (inl refl)
+      (by (Does s (Invalidated g)) (release (λ f. drains_for (s.kind f) g) (freed g)) (inr (inl (λ f. drains_for (s.kind f) g, refl))) (clean_rest g))
 
   pub invalidated_goes : (g : ℕ) → Then (Goes s (Invalidated g)) (invalidated s g)
   unfolding invalidated

@@ -33,7 +33,7 @@ use Rattle.model_moves.proofs.Laws.Paths.{stay, by, onward, way_to, way_more}
 use Rattle.model_paths.specs.View.{whole_slot, use_of, waits_of, words_of, view}
 use Rattle.model_paths.proofs.Laws.View.{same, clearing, words_low, words_store}
 use Rattle.model_paths.proofs.Operations.Frames.{no_word, and_false}
-use Rattle.model_paths.specs.Goes.{Goes, Builds}
+use Rattle.model_paths.specs.Goes.{Does, Goes, Builds}
 use Rattle.model.specs.Machine.{Map}
 use Rattle.model_moves.specs.Path.{Deed, enters, Way}
 
@@ -63,13 +63,13 @@ module _ (s : State.State) (c : Invariant.Core s) (t t' g h q : ℕ) (live : s.e
 
   table_path : Way (Builds g) (view s) (view (with_table s t (q % 512) t' g h q))
   unfolding with_table zeros
-  table_path = onward (clearing s t' hf (inl (t', refl)))
-      (by (claim t' g h q (record {
+  table_path = onward (Builds g) (clearing (Builds g) s t' hf (inl (t', refl)))
+      (by (Builds g) (claim t' g h q (record {
         was = ap use_of hf;
         leaf = λ v y r e d. absurd (no_output (nothing (upper h v % 512)) d);
         no_table = λ i y d. no_next (nothing (i % 512)) d;
       })) (inr (h, q, inl refl))
-      (by (link t t' g h q (table_entry s.first t') (record {
+      (by (Builds g) (link t t' g h q (table_entry s.first t') (record {
         live = live;
         place = upd_other (λ f. use_of (s.kind f)) t' (claimed g h q) t apart ∙ ap use_of ht;
         empty = still;
@@ -77,7 +77,7 @@ module _ (s : State.State) (c : Invariant.Core s) (t t' g h q : ℕ) (live : s.e
         fresh = λ j v y r e d. and_false (eqb j whole_slot) (s.dirty g) clean;
         whole = λ j a. let v = some_page (suc h) q in true≢false (sym (a v.0 v.1) ∙ and_false (eqb j whole_slot) (s.dirty g) clean);
         reads = descriptor_table s.first t' (Core.in_room s c t' State.free hf refl) h;
-      })) (inr (h, q, inr refl)) (way_to stay (same _ (view (with_table s t (q % 512) t' g h q)) refl refl kinds (λ f d. refl) waits
+      })) (inr (h, q, inr refl)) (way_to (Builds g) (stay (Builds g)) (same _ (view (with_table s t (q % 512) t' g h q)) refl refl kinds (λ f d. refl) waits
       (λ d. refl)
       (λ d j v. refl) (words_store (upd s.word t' (λ i. 0)) t (q % 512) (table_entry s.first t') (omega arith))))))
     where
@@ -102,13 +102,13 @@ grow_made : (h : ℕ) (s : State.State) (g t v : ℕ) (pick : ℕ → ℕ) → L
     Grows h (linked h s g t v pick) g (pick 0) v (λ j. pick (suc j)) → Grows (suc h) s g t v pick
 unfolding grow upper
 grow_made h s g t v pick x e l d =
-    rw x.was (onward (table_path s x.core t (pick 0) g h (upper (suc h) v) l d x.above x.was x.spare)
+    rw x.was (onward (Builds g) (table_path s x.core t (pick 0) g h (upper (suc h) v) l d x.above x.was x.spare)
     (e (unfold with_table in l) (unfold with_table in d)))
 
 grow_goes : (h : ℕ) (s : State.State) → Invariant.Core s → (g t v : ℕ) (pick : ℕ → ℕ) → Choice s pick →
     missing_from s h t v ≤ State.free_frames s → s.kind t ≡ State.table g h (upper (suc h) v) → Grows h s g t v pick
 unfolding grow
-grow_goes = grow_by Grows (λ s c g t v pick a l d. stay) (λ h s c g t v pick a t' w e l d. rw w (e l d)) grow_made
+grow_goes = grow_by Grows (λ s c g t v pick a l d. stay (Builds g)) (λ h s c g t v pick a t' w e l d. rw w (e l d)) grow_made
 
 module _ (s : State.State) (c : Invariant.Core s) (g v u f r : ℕ) (live : s.exists g ≡ true) (clean : s.dirty g ≡ false)
     (hu : s.kind u ≡ State.table g 0 (v / 512)) (was : entry_at s u (v % 512) ≡ empty) (m : Invariant.May s g f r) (hr : r < 8) where
@@ -116,9 +116,9 @@ module _ (s : State.State) (c : Invariant.Core s) (g v u f r : ℕ) (live : s.ex
   may_view (inl a) = inl (ap use_of a)
   may_view (inr a) = inr (a.0, ap use_of a.1, a.2)
 
-  page_path : {D : Deed → Type 0} → D (enters g 0 v (s.first + f) r) → Way D (view s) (view (with_page s u (v % 512) f r g))
+  page_path : (D : Deed → Type 0) → D (enters g 0 v (s.first + f) r) → Way D (view s) (view (with_page s u (v % 512) f r g))
   unfolding with_page upper inside
-  page_path d = by (enter u g 0 v (page_entry s.first f r) (s.first + f) r (record {
+  page_path D d = by D (enter u g 0 v (page_entry s.first f r) (s.first + f) r (record {
     live = live;
     place = ap use_of hu;
     empty =
@@ -127,7 +127,7 @@ module _ (s : State.State) (c : Invariant.Core s) (g v u f r : ℕ) (live : s.ex
     fresh = λ j w e. and_false (eqb j whole_slot) (s.dirty g) clean;
     reads = descriptor_page s.first f r (may_room s c g f r m) hr;
     may = λ w e. (f, refl, may_view m);
-  })) d (way_to stay (same _ (view (with_page s u (v % 512) f r g)) refl refl (λ f. refl) (λ f d. refl) (λ f d j. refl) (λ d. refl)
+  })) d (way_to D (stay D) (same _ (view (with_page s u (v % 512) f r g)) refl refl (λ f. refl) (λ f d. refl) (λ f d j. refl) (λ d. refl)
       (λ d j v. refl) (words_store s.word u (v % 512) (page_entry s.first f r) (omega arith))))
 
 -- where nothing of g is stale
@@ -140,11 +140,11 @@ map_way s c f g a r pick ch d =
     let room = leb-true (missing s g v) (State.free_frames s) e8 in
     let z = grown_for s c nothing_kept (nothing_ok s) g v pick e1 l ch room in
     let w = grown_empty s c nothing_kept (nothing_ok s) g v pick e1 l ch room (none_is (translate s g v) (not_true (mapped s g v) e7)) in
-    then_done (onward (way_more (λ d y. inl y)
+    then_done (onward (Does s (Map f g a r pick)) (way_more {D = Builds g} {E = Does s (Map f g a r pick)} (λ d y. inl y)
     (grow_goes 3 s c g (s.root g) v pick ch room (root_serves (s.kind (s.root g)) g v (c.roots g e1) l) e1 d))
     (page_path x.state z.core g v x.last f r (ap (λ (y : ℕ → Bool). y g) z.exists ∙ e1)
     (ap (λ (y : ℕ → Bool). y g) z.dirty ∙ d) z.last w (z.may g f r (may_is s g f r e6)) (rights_low r e4)
-    (inr (ap (λ (n : ℕ). enters g 0 v (n + f) r) z.first))))
+    (Does s (Map f g a r pick)) (inr (ap (λ (n : ℕ). enters g 0 v (n + f) r) z.first))))
   where
     v : ℕ
     v = a / 4096

@@ -56,7 +56,7 @@ module _ (s : State.State) (c : Core s) (n : Ended s) where
   lend_path : (g f h how : ℕ) → s.kind f ≡ State.page g → Lend (view s) f h how →
       Way (λ d. d ≡ lends f h how) (view s) (view (becomes s f (State.page g) s.word (upd2 s.shared f h how)))
   unfolding becomes
-  lend_path g f h how k m = by (lend f h how m) refl (way_to stay
+  lend_path g f h how k m = by (λ d. d ≡ lends f h how) (lend f h how m) refl (way_to (λ d. d ≡ lends f h how) (stay (λ d. d ≡ lends f h how))
       (same _ (view (becomes s f (State.page g) s.word (upd2 s.shared f h how))) refl refl (λ t. ap use_of (again t)) (λ t d. refl)
       (λ t d j. ap (λ x. waits_of x d j) (again t)) (λ d. refl) (λ d j v. refl) (λ t i. refl)))
     where
