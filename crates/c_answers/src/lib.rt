@@ -1,5 +1,7 @@
 // An answer as numbers at the start of a lent array: seven of a walk, three of a frame or a guest. Every function that tells one answers
 // SHORT, and writes nothing, where the array has no room for it; otherwise DONE.
+#![tactic(auto)]
+
 ghost use Rattle.std.specs.Prelude.{◌≡◌, ◌++◌, ◌≤◌, length, drop};
 ghost use Rattle.c_answers.specs.Numbers.{answer_numbers, frame_numbers, guest_numbers};
 ghost use Rattle.c_answers.specs.Answers.{kind_number, walk_places, state_places, walk_answer, frame_answer, flag, guest_answer, Tells};

@@ -1,5 +1,7 @@
 // The stored ledger of document 03, section 1, in a lent slice outside RAM; specs/Layout.antt tells how it lies there.
 // A function that stores says by Changed what becomes of the state of the two slices, and no caller sees where.
+#![tactic(auto)]
+
 ghost use Rattle.std.specs.Prelude.{◌≡◌, ◌≤◌};
 ghost use Rattle.ledger.specs.Columns.{room_for_frames};
 ghost use Rattle.ledger.specs.Layout.{words_for};

@@ -1,4 +1,6 @@
 // The free frames, a sparse set: taking any, taking a named one and putting one back each exchange two places.
+#![tactic(auto)]
+
 ghost use Rattle.std.specs.Prelude.{◌≡◌, false, ◌<◌, ◌^◌};
 ghost use Rattle.model.specs.State.{free, table, page, is_free};
 ghost use Rattle.model.specs.Changes.{drained, released};

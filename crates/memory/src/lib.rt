@@ -1,5 +1,7 @@
 // Memory as a slice of bytes: the 64-bit word at a place, read and stored, lowest byte first; a part cleared.
 // And which frames from which address on RAM can have.
+#![tactic(auto)]
+
 ghost use Rattle.std.specs.Prelude.{◌≡◌, ◌+◌, ◌<◌, ◌≤◌, ◌%◌, length};
 ghost use Rattle.memory.specs.Word.{word_at, stored_at, cleared_at};
 ghost use Rattle.memory.specs.Ram.{ram_fits};

@@ -1,4 +1,6 @@
 // The third demand, of every run of moves, a file for each sentence. All of it is in specs/.
+#![tactic(auto)]
+
 pub fn same(x: usize) -> usize {
     x
 }

@@ -1,5 +1,7 @@
 // The operations of document 03, section 3, on the two lent slices: RAM, and the ledger outside it.
 // An operation is a check, which only borrows, so that a refusal changes nothing; and then a doing, which cannot fail.
+#![tactic(auto)]
+
 pub mod start;
 
 pub use monitor_create::create;

@@ -1,4 +1,6 @@
 // Document 03, section 3: create.
+#![tactic(auto)]
+
 ghost use Rattle.std.specs.Prelude.{◌≡◌};
 ghost use Rattle.model.specs.Operations.{refusal, create as create_of};
 ghost use Rattle.ledger.specs.Layout.{state_of, pick_of};

@@ -1,4 +1,6 @@
 // Document 03, section 3: destroy.
+#![tactic(auto)]
+
 ghost use Rattle.std.specs.Prelude.{◌≡◌, true, ◌<◌};
 ghost use Rattle.model.specs.State.{is_guest};
 ghost use Rattle.model.specs.Changes.{drained};

@@ -1,4 +1,6 @@
 // Document 03, section 3: give and take.
+#![tactic(auto)]
+
 ghost use Rattle.std.specs.Prelude.{◌≡◌};
 ghost use Rattle.model.specs.Operations.{refusal, give as give_of, take as take_of};
 ghost use Rattle.ledger.specs.Layout.{state_of};

@@ -1,4 +1,6 @@
 // Document 03, section 3: invalidated.
+#![tactic(auto)]
+
 ghost use Rattle.std.specs.Prelude.{◌≡◌};
 ghost use Rattle.model.specs.Changes.{released};
 ghost use Rattle.model.specs.Operations.{refusal, invalidated as invalidated_of};

@@ -1,4 +1,6 @@
 // Document 03, section 3: map. The check goes down the tables once, and what it finds is a plan that the doing starts from.
+#![tactic(auto)]
+
 ghost use Rattle.std.specs.Prelude.{◌≡◌, true, ◌+◌, ◌<◌};
 ghost use Rattle.std.proofs.Math.Option.{some};
 ghost use Rattle.model.specs.State.{is_guest};

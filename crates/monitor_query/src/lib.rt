@@ -1,4 +1,6 @@
 // What a host may ask, and nothing is changed: what a frame is, what a guest is, what an address of a guest translates to.
+#![tactic(auto)]
+
 ghost use Rattle.std.specs.Prelude.{◌≡◌, true, ◌+◌, ◌*◌};
 ghost use Rattle.ledger.specs.Layout.{first_of, root_of, exists_of, state_of};
 ghost use Rattle.ledger.specs.Sound.{Sound};

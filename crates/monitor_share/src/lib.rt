@@ -1,4 +1,6 @@
 // Document 03, section 3: share and unshare. The doing of both is one store.
+#![tactic(auto)]
+
 ghost use Rattle.std.specs.Prelude.{◌≡◌, true, ◌<◌};
 ghost use Rattle.model.specs.Operations.{refusal, share as share_of, unshare as unshare_of};
 ghost use Rattle.model.specs.State.{is_guest};

@@ -1,4 +1,6 @@
 // Runs a script: standard input to standard output.
+#![tactic(auto)]
+
 ghost use Rattle.std.specs.Prelude.{◌≡◌, ◌+◌, ◌≤◌, length};
 ghost use Rattle.script.specs.LineAnswered.{room_for, Room};
 ghost use Rattle.pageledger.specs.Progress.{ProgressSound};

@@ -1,5 +1,7 @@
 // The script language: a line is read, the machine answers its command, and the answer is printed.
 // It reads and writes nothing outside of the slices that it is lent.
+#![tactic(auto)]
+
 ghost use Rattle.std.specs.Prelude.{◌≤◌, length};
 ghost use Rattle.script_language.specs.Commands.{read_line};
 ghost use Rattle.script_machine.specs.Machine.{MachineSound};

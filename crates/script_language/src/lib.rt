@@ -1,5 +1,7 @@
 // The script language's lines: a line is taken apart into a command, or into why it can't be read.
 // It knows the commands' words and arguments, and not what they do.
+#![tactic(auto)]
+
 ghost use Rattle.std.specs.Prelude.{◌≡◌};
 ghost use Rattle.script_language.specs.Commands.{read_command, read_words, read_line};
 ghost use Rattle.script_text.specs.Words.{after_blanks};

@@ -6,7 +6,7 @@ use crate::{Command, MOST_ARGUMENTS, Operation, Question};
 use script_text::words::{same_text, word_end, word_start};
 
 // A command by its first word.
-#[derive(Drop)]
+#[derive(Clone, Copy)]
 pub enum CommandName {
     Setup,
     Word,
@@ -21,7 +21,7 @@ pub enum CommandName {
 }
 
 // The operations among them.
-#[derive(Drop)]
+#[derive(Clone, Copy)]
 pub enum OperationName {
     Creating,
     Giving,

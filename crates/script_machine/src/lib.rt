@@ -1,4 +1,6 @@
 // The machine of a script: a command is answered on RAM and a ledger that the caller lends.
+#![tactic(auto)]
+
 ghost use Rattle.std.specs.Prelude.{◌≡◌, false};
 ghost use Rattle.script_machine.specs.Machine.{MachineSound, Executed};
 
@@ -13,7 +15,7 @@ mod words;
 
 // The machine that `setup` made: RAM is the first `frames` frames of the lent slice, from physical address `base`. No frames: none yet.
 // Ready: the ledger is what `setup` and the operations have made, and no `word` has hit a table since.
-#[derive(Drop)]
+#[derive(Clone, Copy)]
 pub struct Machine {
     pub base: u64,
     pub frames: u64,

@@ -1,5 +1,7 @@
 // Document 01: what an address translates to, whatever the memory image holds.
 // Nothing is asked of the caller: numbers that do not fit are refused.
+#![tactic(auto)]
+
 ghost use Rattle.std.specs.Prelude.{◌≡◌, ◌&&◌, ltb};
 ghost use Rattle.walk_descriptor.specs.Descriptor.{kinds_of_access, exception_levels};
 ghost use Rattle.walk.specs.Memory.{image_fits};

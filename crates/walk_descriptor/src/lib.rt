@@ -1,4 +1,6 @@
 // Document 01, section 3: of what kind a 64-bit descriptor is at a level, and what its rights allow.
+#![tactic(auto)]
+
 ghost use Rattle.std.specs.Prelude.{◌≡◌, ◌||◌};
 ghost use Rattle.walk_descriptor.specs.Descriptor.{is_table as table_of, is_block, is_page, reads_1, writes_1, executes_1, allows_1, allows_2, allows};
 

@@ -1,4 +1,6 @@
 // Document 01, sections 2 and 4: where the descriptor of a level stands, and what it comes to there.
+#![tactic(auto)]
+
 ghost use Rattle.std.specs.Prelude.{◌≡◌, cond, ◌&&◌, ◌+◌, ◌*◌, ◌-◌, ◌<◌, ◌≤◌, ◌^◌, ◌/◌, ◌%◌, eqb};
 ghost use Rattle.walk_descriptor.specs.declared.FaultKind.TheVariants.{NotModelled, AccessFlag, Permission};
 ghost use Rattle.memory.specs.Ram.{address_end};

@@ -1,0 +1,9 @@
+use Prim.Native.Nat.{◌/◌}
+use Rattle.monitor_map.proofs.Laws.Map.{Filling, fill_start, fill_more, fill_low, fill_count, map_end}
+use Rattle.monitor_map.proofs.do_map.Given as goal
+
+abbrev pub invariant-loop-height : goal.invariant-loop-height
+invariant-loop-height l = Filling l.initial.ram l.initial.ledger l.f l.g (l.a / 4096) l.ram l.ledger l.height l.table
+
+abbrev pub decreases-loop-height : goal.decreases-loop-height
+decreases-loop-height l = l.height

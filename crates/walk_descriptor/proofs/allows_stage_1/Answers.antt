@@ -1,0 +1,28 @@
+-- Each way out is a row of the table of rights.
+use Rattle.walk_descriptor.specs.Descriptor.{allows_1}
+use mathlib.Core.Path.{sym}
+use borrow.Author.Tests.{eq-eqb, ne_eqb}
+use Rattle.walk_descriptor.proofs.allows_stage_1.Goals as goal
+
+pub returns-then-access-eq-READ : goal.returns-then-access-eq-READ
+unfolding allows_1
+returns-then-access-eq-READ c = simp (
+  eq-eqb _ _ c.if-access-eq-READ.true,
+  sym c.reads_stage_1.ensures,
+)
+
+pub returns-then-access-eq-WRITE : goal.returns-then-access-eq-WRITE
+unfolding allows_1
+returns-then-access-eq-WRITE c = simp (
+  ne_eqb _ _ c.if-access-eq-READ.false,
+  eq-eqb _ _ c.if-access-eq-WRITE.true,
+  sym c.writes_stage_1.ensures,
+)
+
+pub returns : goal.returns
+unfolding allows_1
+returns c = simp (
+  ne_eqb _ _ c.if-access-eq-READ.false,
+  ne_eqb _ _ c.if-access-eq-WRITE.false,
+  sym c.executes_stage_1.ensures,
+)
