@@ -5,10 +5,10 @@ use Rattle.pageledger.specs.Progress.{ProgressSound}
 use Rattle.pageledger.proofs.take_bytes.Given as goal
 
 abbrev pub invariant-loop-i : goal.invariant-loop-i
-invariant-loop-i l =
+invariant-loop-i g l =
     (l.i ≤ length l.chunk) × (length l.line ≡ length l.initial.line) × (length l.ram ≡ length l.initial.ram) × (length l.ledger ≡ length l.initial.ledger)
     × (length l.out ≡ length l.initial.out)
     × ProgressSound l.t (length l.initial.line) l.ram l.ledger (length l.initial.out)
 
 abbrev pub decreases-loop-i : goal.decreases-loop-i
-decreases-loop-i l = length l.chunk - l.i
+decreases-loop-i g l = length l.chunk - l.i

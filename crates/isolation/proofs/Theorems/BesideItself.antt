@@ -18,7 +18,8 @@ use Rattle.isolation_runs.specs.Coarse.{Slices, machine, Called, Stored, called,
 use Rattle.isolation_runs.proofs.Coarse.Steps.{Fit, step_fits}
 use Rattle.isolation_runs.proofs.Coarse.Runs.{begun_is, begun_fits}
 use Rattle.isolation_runs.proofs.Laws.Answered.{done_at_0}
-use Rattle.isolation.specs.TwoComputers.{state, asked, first_calls, second_calls, both_call, first_stores, second_stores, both_store, RunsApart, stop, then, apart_is}
+use Rattle.isolation.specs.TwoComputers.{state, asked, first_calls, second_calls, both_call, first_stores, second_stores, both_store, RunsApart, stop, then}
+use Rattle.isolation.proofs.Theorems.TwoComputers.{apart_is}
 
 abbrev Beside : (g : ℕ) → T.Frames → Slices → Slices → Type 1
 Beside g R x z = (R' : T.Frames) × RunsApart g R x x R' z z

@@ -11,16 +11,17 @@ use Rattle.ledger.specs.Layout.{size_of, kind_of, count_of, dirty_of}
 use Rattle.isolation_runs.specs.Calls.{Call, Create}
 use Rattle.isolation_runs.specs.Slices.{Slices, Reaches, Called, Step, Run, Begun}
 use Rattle.isolation_runs.specs.Terms.{In, Uses, Allowed, Hidden, Unreached, Handed, Laid, Finds, FindsHeight, FindsTable, NothingKept, Written}
-use Rattle.isolation.specs.Reach as R
-use Rattle.isolation.specs.TwoGuests as T
-use Rattle.isolation.specs.BeyondShared as W
-use Rattle.isolation.specs.Hidden as P
-use Rattle.isolation.specs.ChangesHands as H
-use Rattle.isolation.specs.BecomesTable as B
-use Rattle.isolation.specs.TakenOut as O
-use Rattle.isolation.specs.NewGuest as N
-use Rattle.isolation.specs.Integrity as I
-use Rattle.isolation.specs.OneTranslation as E
+use Rattle.isolation.specs.Integrity.{Held}
+use Rattle.isolation.proofs.Theorems.Reach as R
+use Rattle.isolation.proofs.Theorems.TwoGuests as T
+use Rattle.isolation.proofs.Theorems.BeyondShared as W
+use Rattle.isolation.proofs.Theorems.Hidden as P
+use Rattle.isolation.proofs.Theorems.ChangesHands as H
+use Rattle.isolation.proofs.Theorems.BecomesTable as B
+use Rattle.isolation.proofs.Theorems.TakenOut as O
+use Rattle.isolation.proofs.Theorems.NewGuest as N
+use Rattle.isolation.proofs.Theorems.Integrity as I
+use Rattle.isolation.proofs.Theorems.OneTranslation as E
 
 module _ {x y : Slices} (begun : Begun x) (run : Run x y) where
   -- What g reaches is its own page, or a page shared with it for that access, or a frame that drains for it.
@@ -67,7 +68,7 @@ module _ {x y : Slices} (begun : Begun x) (run : Run x y) where
 
   -- contents: no call changes a byte of a page that stays with its guest
   contents : {z : Slices} (c : Call) (r : ℕ) → Called c r y z →
-      (f : ℕ) (k : KindOfFrame) → kind_of y.ledger f ≡ k → I.Held k → f < size_of y.ledger →
+      (f : ℕ) (k : KindOfFrame) → kind_of y.ledger f ≡ k → Held k → f < size_of y.ledger →
       (o : ℕ) → o < 4096 → get_or z.ram (f * 4096 + o) 0 ≡ get_or y.ram (f * 4096 + o) 0
   contents = I.contents begun run
 

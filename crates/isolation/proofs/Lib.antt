@@ -1,0 +1,2 @@
+-- The theorems of the third demand.
+pub mod Theorems
