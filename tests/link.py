@@ -55,10 +55,10 @@ def run(command, expected=None, **environment):
 def numbers_differ():
     """What the definitions and the code of crate c_answers call a number, and the header calls by the same name another."""
     crate, known = HERE / "crates/c_answers", header.numbers()
-    defined = re.findall(r"^([a-z][a-z-]*) = (\d+)$", (crate / "specs/Numbers.antt").read_text(), re.M)
+    defined = re.findall(r"^([a-z]\w*) = (\d+)$", (crate / "specs/Numbers.antt").read_text(), re.M)
     coded = re.findall(r"^pub const (\w+): \w+ = (\d+);$", (crate / "src/numbers.rt").read_text(), re.M)
     for numbers in (defined, coded):
-        other = [name for name, value in numbers if known.get(name.upper().replace("-", "_")) != int(value)]
+        other = [name for name, value in numbers if known.get(name.upper()) != int(value)]
         if other or not numbers:
             return f"not as in the header, or none found: {other}"
     return None
@@ -101,7 +101,7 @@ def dropped_answer(compiler, language, standard, work):
 def kit_tools():
     """Where the kit's clang and linker stand."""
     doc = subprocess.run(["rt", "doc"], stdout=subprocess.PIPE, text=True).stdout
-    return pathlib.Path(doc.strip()).parent.parent / "on" / platform.machine() / "toolchain/bin"
+    return pathlib.Path(doc.strip()).parent / "toolchain/bin"
 
 
 def for_arm(compiler, language, standard):
