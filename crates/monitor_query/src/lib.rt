@@ -55,6 +55,7 @@ pub fn what_frame(ram: &[u8], ledger: &[u32], f: u64) -> FrameKind
 }
 
 // What of frame f is shared with guest h: NOTHING, READING or WRITING of ledger::frame.
+#[tactic(auto, unfolding(crate::specs::Questions::share_told, ledger::specs::Layout::state_in))]
 pub fn shared_with(ram: &[u8], ledger: &[u32], f: u64, h: u64) -> u64
     requires { Sound ram.now ledger.now }
     ensures { result ≡ share_told (state_of ram.now ledger.now) f h }
