@@ -14,7 +14,7 @@ import tally
 
 HERE = pathlib.Path(__file__).resolve().parent
 COMMAND = HERE.parent / "pageledger"
-BUILT = HERE.parent / "target" / "bin" / "pageledger"
+BUILT = HERE.parent / "crates/pageledger/out/pageledger"
 SCRIPT = HERE / "scripts" / "worked-image.script"
 ANSWERS = SCRIPT.with_suffix(".expected").read_bytes()
 PAGES = [HERE.parent / page for page in ("README.md", "docs/SCRIPT.md", "docs/REFERENCE.md")]

@@ -16,10 +16,10 @@ ROW = ("| 1 | it ends | `low/specs/Word: wordAt`, `low/proofs/Theorems/Ends: end
 TREE = {
     "crates.txt": "low:\nhigh: low\n",
     "crates/low/src/lib.rt": "// What is low.\npub mod read;\n",
-    "crates/low/src/read.rt": "// A word.\npub fn word(at: u64) -> u64\n    ensures { λ r. ⌜ r ≡ wordAt at ⌝ }\n{\n    at\n}\n",
+    "crates/low/src/read.rt": "// A word.\npub fn word(at: u64) -> u64\n    ensures { result ≡ wordAt at }\n{\n    at\n}\n",
     "crates/low/specs/Word.antt": "-- a word\nunfoldable pub wordAt : ℕ → ℕ\nwordAt at = at\n",
     "crates/low/proofs/Theorems/Ends.antt": "-- it ends\npub ends : (at : ℕ) → wordAt at ≡ at\nends at = refl\n",
-    "crates/low/proofs/read/word/answers": "returns = refl\n",
+    "crates/low/proofs/read/word/Answers.antt": "use Rattle.low.proofs.read.word.Goals as goal\n\npub returns : goal.returns\nreturns c = refl\n",
     "crates/low/must-fail/wrong.edit": "file: src/read.rt\n",
     "crates/high/src/main.rt": "// A program.\nfn main() {\n    low::read::word(1);\n}\n",
     "tests/it.py": "def first():\n    pass\n",
@@ -172,10 +172,11 @@ def check_figures(count):
         commit = ["git", "-C", room, "-c", "user.name=n", "-c", "user.email=e", "commit", "-qam"]
         for command in (["git", "-C", room, "init", "-q"], ["git", "-C", room, "add", "."], [*commit, "first"]):
             subprocess.run(command, check=True)
-        count.check("figures", wants(run(room, "figures"), 0, "| low | 4 | 1 | 2 | 3 | 0 | 1 | 1 | ? | ? |"))
-        edited(room, "crates/low/proofs/read/word/answers", "refl", "sym refl")
+        count.check("figures", wants(run(room, "figures"), 0, "| low | 4 | 1 | 2 | 4 | 1 | 1 | ? | ? |"))
+        edited(room, "crates/low/proofs/read/word/Answers.antt", "refl", "sym refl")
         subprocess.run([*commit, "second"], check=True)
-        count.check("a proof repaired", wants(run(room, "figures", "HEAD~1..HEAD"), 0, "- low/proofs/read/word/answers: 1 came and 1 went"))
+        repaired = "- low/proofs/read/word/Answers.antt: 1 came and 1 went"
+        count.check("a proof repaired", wants(run(room, "figures", "HEAD~1..HEAD"), 0, repaired))
 
 
 def main():
