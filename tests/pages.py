@@ -19,7 +19,8 @@ TREE = {
     "crates/low/src/read.rt": "// A word.\npub fn word(at: u64) -> u64\n    ensures { result ≡ wordAt at }\n{\n    at\n}\n",
     "crates/low/specs/Word.antt": "-- a word\nunfoldable pub wordAt : ℕ → ℕ\nwordAt at = at\n",
     "crates/low/proofs/Theorems/Ends.antt": "-- it ends\npub ends : (at : ℕ) → wordAt at ≡ at\nends at = refl\n",
-    "crates/low/proofs/read/word/Answers.antt": "use Rattle.low.proofs.read.word.Goals as goal\n\npub returns : goal.returns\nreturns c = refl\n",
+    "crates/low/proofs/read/word/Answers.antt":
+        "use Rattle.low.proofs.read.word.Goals as goal\n\npub returns : goal.returns\nreturns c = refl\n",
     "crates/low/must-fail/wrong.edit": "file: src/read.rt\n",
     "crates/high/src/main.rt": "// A program.\nfn main() {\n    low::read::word(1);\n}\n",
     "tests/it.py": "def first():\n    pass\n",
