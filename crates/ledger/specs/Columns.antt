@@ -1,5 +1,5 @@
 -- The ledger's rows and columns by name; src/columns.rt has the same names for the code. How the state lies in them: Layout.
-use Rattle.std.specs.Prelude.{ℕ, ◌+◌, ◌*◌}
+use Rattle.std.specs.Prelude.{ℕ}
 
 -- a row, of 64 bytes
 abbrev pub ROW_WORDS : ℕ

@@ -1,6 +1,6 @@
 -- The free frames as a sparse set: a permutation D of the frames with its inverse P, of which the first `count` are the free ones.
 -- A frame that leaves or joins changes places with the last one inside or the first one outside.
-use Rattle.std.specs.Prelude.{◌≡◌, ℕ, ◌-◌, ◌≤◌, ◌<◌, eqb, ltb}
+use Rattle.std.specs.Prelude.{◌≡◌, ℕ, ◌≤◌, ◌<◌, eqb, ltb}
 use Rattle.model.specs.State.{FREE}
 
 -- K: what a frame is, FREE where it is free

@@ -4,7 +4,7 @@
 use Rattle.std.specs.Prelude.{◌≡◌, Bool, cond, List, ℕ, ◌+◌, ◌*◌, ◌-◌, ◌≤◌, ◌<◌, ◌/◌, ◌%◌, eqb, ltb, length}
 use Rattle.memory.specs.Word.{word_at}
 use Rattle.model.specs.State.{FREE, TABLE, DRAINING_TABLE, PAGE, DRAINING_PAGE, State, KindOfFrame, monitor, free, table, draining_table, page, draining_page, is_guest}
-use Rattle.ledger.specs.Columns.{ROW_WORDS, GUEST_ROWS, HEADER_WORDS, room_for_frames, WORD_LIMIT, HEADER, FREE_COUNT, FRAME_COUNT, FIRST_LOW, FIRST_HIGH, EXISTS, DIRTY, ROOT, YES, KIND, GUEST, HEIGHT, RANGE, CELLS, SHARE_UNIT, FRAME_AT, PLACE}
+use Rattle.ledger.specs.Columns.{ROW_WORDS, GUEST_ROWS, HEADER_WORDS, room_for_frames, WORD_LIMIT, HEADER, FREE_COUNT, FRAME_COUNT, FIRST_LOW, FIRST_HIGH, EXISTS, DIRTY, ROOT, YES, KIND, GUEST, HEIGHT, RANGE, CELLS, SHARE_UNIT, FRAME_AT}
 use Rattle.ledger.specs.Cells.{cell}
 
 abbrev pub words_for : ℕ → ℕ

@@ -1,5 +1,5 @@
 -- What the operations of the monitor count on and keep, of the two lent slices.
-use Rattle.std.specs.Prelude.{◌≡◌, List, ℕ, ◌*◌, ◌-◌, length}
+use Rattle.std.specs.Prelude.{◌≡◌, List, ℕ, ◌*◌, length}
 use Rattle.model.specs.Invariant.{Core}
 use Rattle.ledger.specs.Columns.{FREE_COUNT, HEADER}
 use Rattle.ledger.specs.Layout.{guest_rows, size_of, state_of}

@@ -1,7 +1,7 @@
 -- Document 03, sections 2 and 3: the nine operations and set_up, each as its refusals in the order of its line and then the state after.
 -- A refusal carries its number and no state, so that it changes nothing. Arguments are any numbers.
 -- Decided here: a test that is false answers the number beside it; 3 compares the NUMBER of free frames with the number needed.
-use Rattle.std.specs.Prelude.{Bool, true, false, not, ◌&&◌, ◌||◌, cond, ℕ, ◌+◌, ◌*◌, ◌/◌, ◌%◌, eqb, ltb, leb}
+use Rattle.std.specs.Prelude.{Bool, true, false, not, ◌&&◌, ◌||◌, cond, ℕ, ◌/◌, ◌%◌, eqb, ltb, leb}
 use Rattle.memory.specs.Ram.{frame_bytes, address_end, ram_fits}
 use Rattle.model.specs.Base.{upd, upd2, all}
 use Rattle.model.specs.State.{WRITE, EXECUTE, NOTHING, READING, WRITING, State, KindOfFrame, monitor, free, page, draining_page, is_guest, is_free, is_page, is_page_of, total, free_frames}

@@ -4,7 +4,6 @@
 use Rattle.std.specs.Prelude.{◌≡◌, refl, [], ℕ}
 use Rattle.model_moves.specs.Machine.{Machine}
 use Rattle.model_moves.specs.Terms.{Bounded, Start}
-use Rattle.model_two_computers.specs.Terms as T
 use Rattle.model_two_computers.specs.Terms.{Frames, no_frames, At, Corresponds}
 use Rattle.model_two_computers.proofs.Reading.{start_paired, both_read}
 use Rattle.model_two_computers.specs.Programs.{Program}

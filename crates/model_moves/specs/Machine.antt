@@ -1,8 +1,8 @@
 -- The monitor, the guests, the host and the processor, step by step. The processor looks when it likes: between any two moves.
-use Rattle.std.specs.Prelude.{◌≡◌, Bool, true, ℕ, ◌+◌, ◌*◌, ◌<◌, ◌/◌, ◌%◌}
+use Rattle.std.specs.Prelude.{Bool, ℕ, ◌+◌, ◌*◌, ◌<◌, ◌/◌, ◌%◌}
 use Rattle.model.specs.State.{put_byte}
-use Rattle.model.specs.Cache.{Access, writing}
-use Rattle.model_moves.specs.Spaces.{Spaces, exists, store}
+use Rattle.model.specs.Cache.{writing}
+use Rattle.model_moves.specs.Spaces.{Spaces, store}
 use Rattle.model_moves.specs.Cache.{Caches, Looks, forget, Reach}
 use Rattle.model_moves.specs.Moves.{Move, Report, reported}
 

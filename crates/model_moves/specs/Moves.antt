@@ -6,7 +6,7 @@ use Rattle.model.specs.Base.{upd, upd2}
 use Rattle.model.specs.Translate.{upper}
 use Rattle.model.specs.Operations.{shares}
 use Rattle.model.specs.Cache.{invalid, next, output, descriptor, inside}
-use Rattle.model_moves.specs.Spaces.{Spaces, Space, FrameUse, monitor, free, claimed, table, emptied, page, draining, exists, with_kind, with_shared, with_waits, with_space, with_stale, with_word, store, May, Has, Clean, Fresh, Everything}
+use Rattle.model_moves.specs.Spaces.{Spaces, Space, FrameUse, monitor, free, claimed, table, emptied, page, draining, exists, with_kind, with_shared, with_waits, with_space, with_stale, store, May, Has, Clean, Fresh}
 
 -- a frame that holds no table, and is not claimed for one
 abbrev pub untabled : FrameUse → Bool

@@ -5,7 +5,7 @@ use Rattle.std.specs.Prelude.{◌≡◌, Bool, true, false, ◌⊎◌, ℕ, ◌+
 use Rattle.model.specs.Base.{upd2}
 use Rattle.model.specs.Translate.{upper}
 use Rattle.model.specs.Operations.{shares}
-use Rattle.model.specs.Cache.{Descriptor, output, descriptor, inside}
+use Rattle.model.specs.Cache.{output, descriptor, inside}
 
 -- What a frame is used for. Height 0 is where pages are; a table of height h serves the pages v with upper (h + 1) v = range.
 -- claimed: a table that nothing leads to yet. emptied: one that no table leads to any more, though caches may.

@@ -1,9 +1,9 @@
 -- Words for the statements on isolation: how a machine begins, and what a space is allowed to do with a frame.
-use Rattle.std.specs.Prelude.{◌≡◌, Bool, true, false, ◌⊎◌, ℕ, ◌+◌, ◌≤◌, ◌/◌}
+use Rattle.std.specs.Prelude.{◌≡◌, true, false, ◌⊎◌, ℕ, ◌+◌, ◌≤◌, ◌/◌}
 use Rattle.model.specs.Cache.{Access}
 use Rattle.model.specs.Terms.{lends}
 use Rattle.model_moves.specs.Spaces.{Spaces, FrameUse, monitor, free, claimed, table, emptied, page, draining, exists, Says}
-use Rattle.model_moves.specs.Cache.{Caches, Reach}
+use Rattle.model_moves.specs.Cache.{Reach}
 use Rattle.model_moves.specs.Moves.{Move, put, claim, link, enter, clear, unhook, hand, lend, retire, release, open_space, end, dissolve}
 use Rattle.model_moves.specs.Machine.{Machine, Step, moves, reports, looks, stores}
 use Rattle.model.specs.Translate.{upper}

@@ -19,7 +19,6 @@ use Rattle.model.proofs.Invariant.Way.{translate_from}
 use Rattle.model.proofs.Invariant.MapUnmap.{address_low, some_is, grown_for, without_is}
 use Rattle.model.proofs.Invariant.Holds.{nothing_ok}
 use Rattle.model.proofs.Invariant.Answer.{Then, then_done, checked}
-use Rattle.model_moves.specs.Spaces.{monitor, free}
 use Rattle.model_paths.specs.Goes.{Ended}
 
 -- what the paths need of draining tables holds after every operation

@@ -1,10 +1,8 @@
 -- A frame that an operation makes a page: the operation is give, and nobody reaches the frame after it, though the processor looked all
 -- the way.
 use mathlib.Core.Path.{◌≡◌, refl, sym, ap, ◌∙◌, subst}
-use mathlib.Core.Bool.{Bool}
 use mathlib.Core.Logic.{◌⊎◌, inl, inr}
 use Prim.Native.Nat.{ℕ, ◌+◌}
-use lib.Dec.{eqb}
 use Rattle.model.specs.Base.{upd}
 use Rattle.model.proofs.Laws.Base.{upd_at}
 use Rattle.model.specs.State

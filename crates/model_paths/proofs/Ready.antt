@@ -2,15 +2,14 @@
 use mathlib.Core.Path.{◌≡◌, refl, subst}
 use mathlib.Core.Bool.{Bool, true, false, ◌&&◌, ◌||◌, cond}
 use mathlib.Core.Logic.{◌⊎◌, inl, inr}
-use Prim.Native.Nat.{ℕ, ◌+◌, ◌*◌, ◌%◌}
+use Prim.Native.Nat.{ℕ}
 use native.Mathlib.Omega.{arith}
-use lib.Dec.{eqb, ltb, leb}
+use lib.Dec.{ltb, leb}
 use Rattle.memory.specs.Ram.{ram_fits}
 use Rattle.model.specs.State
 use Rattle.model.specs.Operations.{Out, refuse, done, set_up, check, at_first, started}
 use Rattle.model.specs.Cache
 use Rattle.model.specs.Machine.{Operation, Create, Give, Take, Map, Unmap, Share, Unshare, Destroy, Invalidated, answer, Chooses}
-use Rattle.model.proofs.Invariant.Kinds
 use Rattle.model.specs.Invariant.{Core as LedgerCore}
 use Rattle.model.proofs.Invariant.Holds
 use Rattle.model.proofs.Invariant.Holds.{answer_good, set_up_core, neither}

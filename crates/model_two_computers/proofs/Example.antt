@@ -19,7 +19,7 @@ use Rattle.model.specs.Entry.{rights_of}
 use Rattle.model.specs.Translate.{upper}
 use Rattle.model.specs.Operations.{shares}
 use Rattle.model.specs.Cache.{descriptor, inside, reading}
-use Rattle.model_moves.specs.Spaces.{Spaces, Space, FrameUse, monitor, free, table, claimed, page, exists, with_kind, with_shared, with_space, store}
+use Rattle.model_moves.specs.Spaces.{Spaces, Space, FrameUse, monitor, free, table, claimed, page, with_kind, with_shared, with_space, store}
 use Rattle.model_moves.specs.Cache.{from_root, read_off}
 use Rattle.model_moves.specs.Moves.{put, enter, Enter, hand, lend, Lend, open_space, Open, rooted}
 use Rattle.model_moves.specs.Machine.{Machine, byte_stored, moves}

@@ -1,7 +1,7 @@
 -- Why it holds of a group: what is the same for one member is aside for the others.
 use mathlib.Core.Path.{◌≡◌, refl, sym, ap, ◌∙◌}
 use mathlib.Core.Logic.{inl, inr}
-use mathlib.Core.List.{List, [], ◌∷◌}
+use mathlib.Core.List.{List, ◌∷◌}
 use Prim.Native.Nat.{ℕ}
 use Rattle.model.proofs.Laws.Base.{eq?, upd_at, upd_other}
 use Rattle.model.specs.Base.{upd}

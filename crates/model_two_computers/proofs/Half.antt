@@ -2,7 +2,7 @@
 use mathlib.Core.Path.{◌≡◌, refl, sym, ap, ◌∙◌}
 use mathlib.Core.Bool.{Bool, true}
 use mathlib.Core.Logic.{inl, inr}
-use Prim.Native.Nat.{ℕ, suc, ◌+◌, ◌-◌, ◌/◌, ◌%◌}
+use Prim.Native.Nat.{ℕ, suc, ◌+◌, ◌/◌, ◌%◌}
 use Rattle.model.proofs.Laws.Base.{upd_same}
 use Rattle.model.specs.Translate.{upper}
 use Rattle.model.specs.Cache.{output, descriptor, inside}
@@ -10,7 +10,6 @@ use Rattle.model_moves.specs.Spaces.{Spaces, table, exists, store, Says, Leads}
 use Rattle.model_moves.specs.Cache.{forget}
 use Rattle.model_moves.specs.Moves.{Link, Enter, Clear, reported}
 use Rattle.model_moves.specs.Machine.{Machine, with_spaces}
-use Rattle.model_two_computers.specs.Terms as T
 use Rattle.model_two_computers.specs.Terms.{Frames}
 use Rattle.model_moves.proofs.Invariant.Core.{Core, output_same, no_output, no_way}
 use Rattle.model_moves.proofs.Invariant.Entries.{same_frame, here?, set_here, set_beside, not_claimed, set_leads, still_leads, leads_new}

@@ -2,7 +2,7 @@
 use mathlib.Core.Path.{◌≡◌, refl, sym, ap, ◌∙◌}
 use mathlib.Core.Bool.{Bool, true, false, true≢false}
 use mathlib.Core.Logic.{inl, inr}
-use Prim.Native.Nat.{ℕ, ◌+◌, ◌*◌, ◌-◌, ◌<◌, ◌/◌, ◌%◌}
+use Prim.Native.Nat.{ℕ, ◌+◌, ◌*◌, ◌<◌, ◌/◌, ◌%◌}
 use borrow.Author.Tests.{eq-eqb}
 use Rattle.model.proofs.Laws.Base.{eq?, upd2_at, upd2_other}
 use Rattle.model.specs.Base.{upd2}
@@ -10,14 +10,12 @@ use Rattle.model.specs.State.{put_byte}
 use Rattle.model.specs.Translate.{upper}
 use Rattle.model.specs.Cache.{writing}
 use Rattle.model_moves.specs.Spaces.{Spaces, table, exists, store, Leads, Clean}
-use Rattle.model_moves.specs.Cache.{kept, Reach, forget}
+use Rattle.model_moves.specs.Cache.{Reach, forget}
 use Rattle.model_moves.specs.Moves.{untabled, Move, put, link, enter, clear, dissolve, Report, reported}
 use Rattle.model_moves.specs.Machine.{Machine, with_spaces, byte_stored, Step, moves, stores}
 use Rattle.model_moves.proofs.Invariant.Beside.{first_same}
 use Rattle.model_two_computers.specs.Terms as T
 use Rattle.model_two_computers.specs.Terms.{Frames, SameWords, Aside, Unpaired, Same}
-use Rattle.model_moves.proofs.Invariant.Clear.{cleared}
-use Rattle.model_moves.proofs.Invariant.Link.{linked}
 use Rattle.model_moves.proofs.Invariant.Open.{nothing}
 use Rattle.model_moves.proofs.Invariant.Dissolve.{dissolved, from'}
 use Rattle.model_moves.proofs.Invariant.Holds.{move_holds, step_good}

@@ -12,11 +12,10 @@ use Rattle.model.specs.Translate.{upper}
 use Rattle.model.specs.Operations.{shares}
 use Rattle.model.specs.Cache.{reading}
 use Rattle.model_moves.specs.Spaces.{Spaces, monitor, free, table, exists, Leads}
-use Rattle.model_moves.specs.Cache.{Table, from_root, from_word, kept, read_off}
+use Rattle.model_moves.specs.Cache.{Table, from_root, from_word, read_off}
 use Rattle.model_moves.specs.Machine.{Machine, Step, moves, reports, looks, stores, Run, stop, then}
 use Rattle.model_moves.specs.Terms.{Start, Bounded, Allowed}
 use Rattle.model_moves.proofs.Invariant.Monitors.{move_size, monitors_stay}
-use Rattle.model_two_computers.specs.Terms as T
 use Rattle.model_two_computers.specs.Terms.{Frames, no_frames, Repaired, Two, ends, left, right, both, repairs, At, Stale, Corresponds, Settled, Reads}
 use Rattle.model_moves.proofs.Invariant.Core.{clash, Core, height_low}
 use Rattle.model_moves.proofs.Invariant.Entries.{same_frame}

@@ -2,14 +2,13 @@
 use mathlib.Core.Path.{◌≡◌, refl, sym, ap, ◌∙◌}
 use mathlib.Core.Bool.{Bool, true, false, true≢false}
 use mathlib.Core.Logic.{◌⊎◌, inl, inr}
-use Prim.Native.Nat.{ℕ, ◌+◌, ◌-◌, ◌/◌}
+use Prim.Native.Nat.{ℕ, ◌+◌, ◌/◌}
 use Rattle.model.proofs.Laws.Base.{eq?, upd_other}
 use Rattle.model_moves.specs.Spaces.{Spaces, Space, table, exists, Leads}
 use Rattle.model_moves.specs.Cache.{Caches, Table, from_root, from_kept, from_word, Translation, kept, read_off, forget}
 use Rattle.model_moves.specs.Moves.{closed, Move, put, claim, link, enter, clear, unhook, hand, lend, retire, release, open_space, end, dissolve, Report, reported}
 use Rattle.model_moves.specs.Machine.{Machine, with_spaces, Step, moves, reports, looks, stores}
 use Rattle.model_moves.proofs.Invariant.Beside.{first_same, beside, store_leads}
-use Rattle.model_two_computers.specs.Terms as T
 use Rattle.model_two_computers.specs.Terms.{Aside}
 use Rattle.model_moves.proofs.Invariant.Core.{Core, Kept, PageOk, Gone, one_way}
 use Rattle.model_moves.proofs.Invariant.Found.{traced}

@@ -1,11 +1,10 @@
 -- Words for a group C of spaces, each with a program of its own: guests that share pages with one another, or a guest with its devices.
 -- One correspondence of frames serves all members.
-use Rattle.std.specs.Prelude.{◌≡◌, ◌⊎◌, List, [], ◌∷◌, ℕ}
+use Rattle.std.specs.Prelude.{◌≡◌, ◌⊎◌, List, ◌∷◌, ℕ}
 use Rattle.model.specs.Base.{upd}
 use Rattle.model_moves.specs.Machine.{Machine, Step}
 use Rattle.model.specs.Cache.{reading, writing}
 use Rattle.model_moves.specs.Terms.{Allowed}
-use Rattle.model_two_computers.specs.Terms as T
 use Rattle.model_two_computers.specs.Terms.{Frames, Repaired, Aside, LeavesFirst, LeavesSecond, Same}
 use Rattle.model_two_computers.specs.Programs.{News, told, Program, Outcome, Acts, SettledOn, NotBy}
 

@@ -1,5 +1,5 @@
 -- Words for the loop closed: a guest is a program, which acts by what it has learnt; and two computers on which it runs.
-use Rattle.std.specs.Prelude.{◌≡◌, true, ◌⊎◌, List, [], ◌∷◌, ℕ, ◌+◌, ◌<◌}
+use Rattle.std.specs.Prelude.{◌≡◌, true, ◌⊎◌, List, ◌∷◌, ℕ, ◌+◌, ◌<◌}
 use Rattle.model.specs.Cache.{Access, writing, grants}
 use Rattle.model_moves.specs.Machine.{Machine, with_spaces, byte_stored, Step, moves, reports, looks, stores}
 use Rattle.model_two_computers.specs.Terms.{Frames, Two, ends, left, right, both, repairs, At, Settled, byte}

@@ -1,5 +1,5 @@
 -- map as an operation of the state, its tests that look at no table, and the plan of its check: what the contracts cite.
-use Rattle.std.specs.Prelude.{◌≡◌, Bool, true, false, not, ◌&&◌, ◌||◌, List, ℕ, ◌-◌, ◌≤◌, ◌/◌, ltb}
+use Rattle.std.specs.Prelude.{◌≡◌, Bool, true, false, not, ◌&&◌, ◌||◌, List, ℕ, ◌≤◌, ◌/◌, ltb}
 use Rattle.model.specs.State.{State, is_page, is_page_of, free_frames}
 use Rattle.model.specs.Translate.{mapped}
 use Rattle.model.specs.Operations.{Out, refuse, done, refusal, check, page_address, is_rights, shares, may_map, map}

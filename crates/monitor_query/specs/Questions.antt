@@ -4,7 +4,6 @@ use Rattle.walk.specs.declared.Answer.{Answer}
 use Rattle.walk.specs.declared.Answer.TheVariants.{Refused}
 use Rattle.walk.specs.Both.{answer_2}
 use Rattle.model.specs.State.{NOTHING, State, KindOfFrame, monitor, free, table, draining_table, page, draining_page, is_guest, total}
-use Rattle.model.specs.Bytes.{access}
 use Rattle.ledger.specs.Layout.{size_of, first_of, root_of, exists_of}
 use Rattle.monitor_query.specs.declared.FrameKind.{FrameKind}
 use Rattle.monitor_query.specs.declared.FrameKind.TheVariants.{Outside, Monitor, Free, Table, Draining, Page}

@@ -1,5 +1,5 @@
 -- The way of a page number through a guest's tables, as the code goes it: what is known where it stands, and where it ends.
-use Rattle.std.specs.Prelude.{◌≡◌, ◌⊎◌, ℕ, ◌-◌, ◌≤◌}
+use Rattle.std.specs.Prelude.{◌≡◌, ◌⊎◌, ℕ, ◌≤◌}
 use Rattle.model.specs.State.{State}
 use Rattle.model.specs.Translate.{index, descend, missing_from, missing}
 use Rattle.model.specs.Changes.{grow}

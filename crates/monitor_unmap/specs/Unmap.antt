@@ -1,5 +1,5 @@
 -- unmap as an operation of the state, and the plan that the check makes for the doing: what the contracts cite.
-use Rattle.std.specs.Prelude.{◌≡◌, true, ℕ, ◌-◌, ◌/◌, ◌%◌}
+use Rattle.std.specs.Prelude.{◌≡◌, true, ℕ, ◌/◌, ◌%◌}
 use Rattle.std.proofs.Math.Option.{some}
 use Rattle.model.specs.State.{State}
 use Rattle.model.specs.Entry.{to_page}

@@ -1,9 +1,9 @@
 // Runs a script: standard input to standard output.
 #![tactic(auto)]
 
-ghost use Rattle.std.specs.Prelude.{◌≡◌, ◌+◌, ◌≤◌, length, IfOk};
+ghost use Rattle.std.specs.Prelude.{◌≡◌, ◌+◌, ◌<◌, ◌≤◌, length, IfOk, OnErr};
 ghost use Rattle.script.specs.LineAnswered.{room_for, Room};
-ghost use Rattle.pageledger.specs.Progress.{ProgressSound};
+ghost use Rattle.pageledger.specs.Progress.{ProgressSound, LeavesMachine};
 
 use ledger::columns::{HEADER_WORDS, ROW_WORDS};
 use script_machine::Machine;
@@ -47,7 +47,8 @@ fn write_out<W: Write>(output: &mut W, out: &[u8], n: usize) -> io::Result<()>
 // Writes the output where there is no room for another answer, and says how much of it is left.
 fn flush_if_full<W: Write>(output: &mut W, out: &[u8], ram: &[u8], n: usize) -> io::Result<usize>
     requires { (n ≤ length out.now) × (Room (length ram.now) (length out.now)) }
-    ensures { IfOk result (λ left. left + room_for (length ram.now) ≤ length out.now) }
+    ensures ok { IfOk result (λ left. left + room_for (length ram.now) ≤ length out.now) }
+    ensures err { OnErr result (length out.now < n + room_for (length ram.now)) }
 {
     let room = ram.len() / RAM_PER_ROOM + REPLY_BYTES;
     if n <= out.len() - room {
@@ -67,7 +68,8 @@ fn end_line<W: Write>(
     out: &mut [u8],
 ) -> io::Result<Progress>
     requires { ProgressSound s (length line.now) ram.old ledger.old (length out.old) }
-    ensures { IfOk result (λ p. ProgressSound p (length line.now) ram.new ledger.new (length out.old)) }
+    ensures ok { IfOk result (λ p. ProgressSound p (length line.now) ram.new ledger.new (length out.old)) }
+    ensures err { OnErr result (LeavesMachine ram.new ledger.new) }
 {
     let n = s.gathered;
     let at = s.pending;
@@ -110,7 +112,8 @@ fn take_byte<W: Write>(
     out: &mut [u8],
 ) -> io::Result<Progress>
     requires { ProgressSound s (length line.old) ram.old ledger.old (length out.old) }
-    ensures { IfOk result (λ p. ProgressSound p (length line.old) ram.new ledger.new (length out.old)) }
+    ensures ok { IfOk result (λ p. ProgressSound p (length line.old) ram.new ledger.new (length out.old)) }
+    ensures err { OnErr result (LeavesMachine ram.new ledger.new) }
 {
     if b == b'\n' {
         return end_line(output, s, line, ram, ledger, out);
@@ -129,7 +132,8 @@ fn take_bytes<W: Write>(
     out: &mut [u8],
 ) -> io::Result<Progress>
     requires { ProgressSound s (length line.old) ram.old ledger.old (length out.old) }
-    ensures { IfOk result (λ p. ProgressSound p (length line.old) ram.new ledger.new (length out.old)) }
+    ensures ok { IfOk result (λ p. ProgressSound p (length line.old) ram.new ledger.new (length out.old)) }
+    ensures err { OnErr result (LeavesMachine ram.new ledger.new) }
 {
     let mut t = s;
     let mut i = 0;
@@ -151,7 +155,8 @@ fn read_input<R: Read, W: Write>(
     out: &mut [u8],
 ) -> io::Result<Progress>
     requires { Room (length ram.old) (length out.old) }
-    ensures { IfOk result (λ p. ProgressSound p (length line.old) ram.new ledger.new (length out.old)) }
+    ensures ok { IfOk result (λ p. ProgressSound p (length line.old) ram.new ledger.new (length out.old)) }
+    ensures err { OnErr result (LeavesMachine ram.new ledger.new) }
 {
     let mut s = Progress {
         machine: script_machine::no_machine(),

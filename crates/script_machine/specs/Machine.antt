@@ -1,6 +1,6 @@
 -- What each command answers, and what it does to the machine, its RAM and its ledger.
 -- RAM and the ledger are the first parts of the two slices that the program lends; before a `setup` there are none.
-use Rattle.std.specs.Prelude.{ℕ, ◌+◌, ◌-◌, ◌*◌, ◌/◌, ◌%◌, ◌^◌, ◌≤◌, ◌≡◌, Bool, true, false, not, cond, ◌&&◌, ◌||◌, List, ltb, leb, eqb, length, take, drop}
+use Rattle.std.specs.Prelude.{ℕ, ◌+◌, ◌-◌, ◌*◌, ◌/◌, ◌≤◌, ◌≡◌, Bool, true, false, not, cond, ◌&&◌, ◌||◌, List, ltb, leb, length, take, drop}
 use Rattle.memory.specs.Ram.{frame_bytes, ram_fits}
 use Rattle.memory.specs.Word.{word_at, stored_at, cleared_at}
 use Rattle.walk.specs.Both.{answer_2, answer}

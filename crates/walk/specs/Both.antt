@@ -1,6 +1,6 @@
 -- Document 01, sections 4 and 5: stage 2 in RAM, stage 1 through stage 2, and what is refused.
 -- A walk has its result and the physical addresses of the descriptors that it fetched, in order.
-use Rattle.std.specs.Prelude.{ℕ, ◌+◌, ◌%◌, Bool, cond, ◌&&◌, List, [], ◌∷◌, ◌++◌, length, eqb, ltb}
+use Rattle.std.specs.Prelude.{ℕ, ◌%◌, Bool, cond, ◌&&◌, List, [], ◌∷◌, ◌++◌, length, eqb, ltb}
 use Rattle.std.proofs.Math.Option.{Option, none, some}
 use Rattle.memory.specs.Ram.{frame_bytes, address_end}
 use Rattle.walk_descriptor.specs.declared.FaultKind.{FaultKind}

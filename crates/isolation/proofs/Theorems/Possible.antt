@@ -2,11 +2,9 @@
 -- where a
 -- function has answered, there is the step of its call, whatever the processor had kept: the operation's stores are a path of moves.
 use Rattle.std.specs.Prelude.{◌≡◌, refl, List, ℕ, ◌+◌, ◌*◌, ◌<◌, length, get_or, set}
-use Rattle.std.proofs.Common.{sym, ◌∙◌, ap, subst, inl, inr, arith, get_or-set_same, get_or-set_other}
-use Rattle.model.proofs.Laws.Base.{eq?}
+use Rattle.std.proofs.Common.{arith, get_or-set_same}
 use Rattle.model.specs.Cache.{writing}
-use Rattle.ledger.specs.Layout.{size_of, first_of, state_of}
-use Rattle.ledger.specs.Sound.{Sound}
+use Rattle.ledger.specs.Layout.{size_of, first_of}
 use Rattle.monitor.specs.Answers.{Answers}
 use Rattle.isolation_runs.specs.Calls.{Call, defined}
 use Rattle.isolation_runs.specs.Slices.{Slices, Reaches, Byte, Beside, Step, called, stored, loaded_byte, Run, Begun}

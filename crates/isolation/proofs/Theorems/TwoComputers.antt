@@ -5,15 +5,14 @@
 -- g reads at each of its pages is then the same on both.
 use Rattle.std.specs.Prelude.{◌≡◌, refl, true, false, ◌⊎◌, ◌↔◌, ℕ}
 use Rattle.std.proofs.Common.{sym, ap, ◌∙◌, subst, inl, inr}
-use Rattle.model.specs.State.{State}
 use Rattle.model.specs.Operations.{Out}
 use Rattle.model.specs.Machine as M
 use Rattle.model_noninterference.specs.TwoRunsTerms.{shown, SameBytes, answered, Stores}
 use Rattle.model_noninterference.specs.ApartTerms as T
 use Rattle.model_theorems.specs.TwoRunsApart as A
-use Rattle.ledger.specs.Layout.{state_in, state_of, pick_of}
+use Rattle.ledger.specs.Layout.{state_in, pick_of}
 use Rattle.isolation_runs.proofs.Coarse.Joined.{joined}
-use Rattle.isolation_runs.specs.Calls.{Call, in_model}
+use Rattle.isolation_runs.specs.Calls.{Call}
 use Rattle.isolation_runs.proofs.Laws.Calls.{defined_is}
 use Rattle.isolation_runs.specs.Coarse.{Slices, machine, Called, Stored, called, stored, Begun}
 use Rattle.isolation_runs.specs.Coarse as S

@@ -5,7 +5,7 @@ use Rattle.std.specs.Prelude.{◌≡◌, ℕ}
 use Rattle.model.specs.State.{page}
 use Rattle.model.specs.Cache.{Access}
 use Rattle.ledger.specs.Layout.{kind_of, state_in}
-use Rattle.isolation_runs.specs.Slices.{Slices, spaces, machine, Reaches, Run, Begun}
+use Rattle.isolation_runs.specs.Slices.{Slices, Reaches, Run, Begun}
 use Rattle.isolation_runs.specs.Terms.{In, Uses}
 use Rattle.isolation_runs.proofs.Laws.Runs.{are_runs}
 use Rattle.isolation_runs.proofs.Isolation.Words.{page_so}

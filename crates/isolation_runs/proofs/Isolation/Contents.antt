@@ -3,20 +3,18 @@ use mathlib.Core.Path.{◌≡◌, refl, sym, ap, ◌∙◌, subst}
 use mathlib.Core.Bool.{false}
 use mathlib.Core.Logic.{◌⊎◌, inl, inr}
 use mathlib.Core.List.{List}
-use Prim.Native.Nat.{ℕ, ◌+◌, ◌*◌, ◌<◌, ◌≤◌, ◌/◌, ◌%◌}
+use Prim.Native.Nat.{ℕ, ◌+◌, ◌*◌, ◌<◌, ◌/◌, ◌%◌}
 use native.Mathlib.Omega.{arith}
 use lib.Dec.{eqb}
-use lib.ListN.{length, get_or, set}
-use lib.Seq.{get_or-set_other}
-use Rattle.memory.specs.Word.{word_at, stored_at}
+use lib.ListN.{get_or}
+use Rattle.memory.specs.Word.{word_at}
 use Rattle.model.proofs.Laws.Base.{eq?, upd2_other}
-use Rattle.model.specs.State.{State, KindOfFrame, free, page, draining_table, draining_page, monitor, byte, byte_of, kind_number}
+use Rattle.model.specs.State.{State, KindOfFrame, page, byte, byte_of, kind_number}
 use Rattle.model.specs.Operations.{Out, refuse, done}
 use Rattle.model.specs.Bytes.{Image}
 use Rattle.model.specs.Cache.{writing}
 use Rattle.model.specs.Machine as M
 use Rattle.model.proofs.Invariant.Answer.{then_is}
-use Rattle.model.proofs.Invariant.Bytes.{bytes_stay, bytes_zero}
 use Rattle.model.proofs.Invariant.Image.{byte_there}
 use Rattle.model.proofs.Invariant.Orderly.{Orderly, orderly}
 use Rattle.model_moves.proofs.Invariant.Holds.{store_frame}
@@ -26,7 +24,7 @@ use Rattle.ledger.proofs.Laws.Words.{word_is}
 use Rattle.ledger.specs.Sound.{Sound}
 use Rattle.monitor.specs.Answers.{Outcome}
 use Rattle.isolation_runs.specs.Calls.{Call, defined, in_model}
-use Rattle.isolation_runs.specs.Slices.{Slices, spaces, machine, Called, Byte, Word, Step, called, stored, loaded_byte, loaded_word, looked}
+use Rattle.isolation_runs.specs.Slices.{Slices, spaces, machine, Called, Step, called, stored, loaded_byte, loaded_word, looked}
 use Rattle.isolation_runs.specs.Terms.{Written}
 use Rattle.isolation_runs.proofs.Laws.Calls.{defined_is}
 use Rattle.isolation_runs.proofs.Laws.Steps.{Fit, chosen_so, Put, byte_put, word_put, step_fits}

@@ -1,23 +1,21 @@
 -- A frame that becomes a page, or a table, in a step: only a call does that, and the frame was free.
 use mathlib.Core.Path.{◌≡◌, refl, sym, ap, ◌∙◌, subst}
-use mathlib.Core.Logic.{◌⊎◌, inl, inr}
+use mathlib.Core.Logic.{inl, inr}
 use mathlib.Core.List.{List}
-use Prim.Native.Nat.{ℕ, ◌+◌, ◌*◌, ◌<◌, ◌/◌}
-use lib.ListN.{get_or}
-use Rattle.model.specs.State.{KindOfFrame, free, page, table}
+use Prim.Native.Nat.{ℕ, ◌/◌}
+use Rattle.model.specs.State.{free, page, table}
 use Rattle.model.specs.Machine as M
 use Rattle.model.proofs.Invariant.Bytes.{bytes_zero}
 use Rattle.model.proofs.Invariant.Core.{low}
-use Rattle.model.proofs.Invariant.Orderly.{Orderly, Fresh}
+use Rattle.model.proofs.Invariant.Orderly.{Fresh}
 use Rattle.model_moves.specs.Cache.{Reach}
-use Rattle.model_moves.specs.Path.{hands, Along}
-use Rattle.model_moves.proofs.Invariant.Ledger.{Holds}
+use Rattle.model_moves.specs.Path.{Along}
 use Rattle.model_paths.specs.View.{use_of}
 use Rattle.model_paths.specs.Goes.{Does}
 use Rattle.model_paths.proofs.Given.{given_unled, page_from, only_give}
-use Rattle.ledger.specs.Layout.{size_of, kind_of, state_in, state_of, pick_of}
+use Rattle.ledger.specs.Layout.{kind_of, state_in, state_of, pick_of}
 use Rattle.isolation_runs.specs.Calls.{Call, in_model}
-use Rattle.isolation_runs.specs.Slices.{Slices, spaces, machine, Called, Step, called, stored, loaded_byte, loaded_word, looked}
+use Rattle.isolation_runs.specs.Slices.{Slices, spaces, Called, Step, called, stored, loaded_byte, loaded_word, looked}
 use Rattle.isolation_runs.specs.Terms.{Unreached, Handed, Laid}
 use Rattle.isolation_runs.proofs.Laws.Steps.{Fit, step_fits}
 use Rattle.isolation_runs.proofs.Isolation.Words.{page_so, unreached_so}

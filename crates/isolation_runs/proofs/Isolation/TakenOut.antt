@@ -1,18 +1,16 @@
 -- Nothing leads where a guest is not dirty and its tables lead nowhere: taking out is complete, and a new guest inherits nothing.
 use mathlib.Core.Path.{◌≡◌, refl, sym, ap, ◌∙◌}
-use mathlib.Core.Bool.{Bool, true, false, true≢false, not, ◌&&◌}
-use mathlib.Core.Logic.{◌⊎◌, inl, inr}
+use mathlib.Core.Bool.{true, false, true≢false, not}
+use mathlib.Core.Logic.{inl, inr}
 use Prim.Native.Nat.{ℕ, ◌+◌, ◌*◌, ◌<◌, ◌/◌, ◌%◌}
 use native.Mathlib.Omega.{arith}
 use lib.Dec.{eqb}
 use Rattle.model.proofs.Laws.Base.{bool?, eq?, and_true, not_true, upd_at, upd_other}
-use Rattle.model.specs.Base.{upd}
 use Rattle.model.specs.State.{State, table}
-use Rattle.model.specs.Operations.{Out, done, check, create}
+use Rattle.model.specs.Operations.{create}
 use Rattle.model.specs.Changes.{with_root}
 use Rattle.model.specs.Translate.{upper}
-use Rattle.model.specs.Cache.{Access, descriptor, inside}
-use Rattle.model.proofs.Invariant.Kinds as K
+use Rattle.model.specs.Cache.{Access, descriptor}
 use Rattle.model.proofs.Invariant.Answer.{Then, then_done, then_is, checked}
 use Rattle.model_moves.specs.Spaces.{Leads}
 use Rattle.model_moves.specs.Cache.{Translation, Reach}
@@ -20,12 +18,12 @@ use Rattle.model_moves.proofs.Invariant.Core.{Gone}
 use Rattle.model_moves.proofs.Invariant.Found.{page_found, page_found_gone}
 use Rattle.model_moves.proofs.Invariant.Entries.{same_frame}
 use Rattle.model_moves.proofs.Invariant.Levels.{Levels}
-use Rattle.model_paths.specs.View.{whole_slot, view}
+use Rattle.model_paths.specs.View.{whole_slot}
 use Rattle.model_paths.proofs.Laws.View.{words_low}
 use Rattle.model_paths.proofs.Laws.Reads.{kind_table, output_is, has_none}
 use Rattle.ledger.specs.Layout.{count_of, dirty_of, exists_of, state_in, state_of, pick_of}
 use Rattle.isolation_runs.specs.Calls.{Create}
-use Rattle.isolation_runs.specs.Slices.{Slices, spaces, machine, Reaches, Called}
+use Rattle.isolation_runs.specs.Slices.{Slices, spaces, Reaches, Called}
 use Rattle.isolation_runs.specs.Terms.{In, NothingKept}
 use Rattle.isolation_runs.proofs.Laws.Answered.{done_at_0}
 use Rattle.isolation_runs.proofs.Laws.Steps.{Fit}

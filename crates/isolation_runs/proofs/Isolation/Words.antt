@@ -1,12 +1,10 @@
 -- From the words of moves to the ledger's.
-use mathlib.Core.Path.{◌≡◌, refl, sym, ap, ◌∙◌}
-use mathlib.Core.Bool.{true}
-use mathlib.Core.Logic.{◌⊎◌, inl, inr}
-use Prim.Native.Nat.{ℕ, ◌+◌, ◌<◌, ◌/◌}
+use mathlib.Core.Path.{◌≡◌, refl, ap}
+use mathlib.Core.Logic.{inl, inr}
+use Prim.Native.Nat.{ℕ, ◌<◌}
 use Rattle.model.proofs.Laws.Base.{lt?}
 use Rattle.model.specs.State.{KindOfFrame, monitor, free, table, draining_table, page, draining_page}
 use Rattle.model.specs.Cache.{Access}
-use Rattle.model.specs.Terms.{lends}
 use Rattle.model_moves.specs.Spaces as S
 use Rattle.model_moves.specs.Terms as T
 use Rattle.model_moves.proofs.Invariant.Core.{clash}
@@ -15,8 +13,8 @@ use Rattle.model_moves.proofs.Invariant.Always.{reached}
 use Rattle.model_paths.specs.View.{use_of}
 use Rattle.model_paths.proofs.Laws.Reads.{kind_page}
 use Rattle.ledger.specs.Layout.{size_of, kind_of, state_in}
-use Rattle.isolation_runs.specs.Slices.{Slices, spaces, machine, Reaches}
-use Rattle.isolation_runs.specs.Terms.{In, Uses, Allowed, Hidden, Unreached}
+use Rattle.isolation_runs.specs.Slices.{Slices, spaces, Reaches}
+use Rattle.isolation_runs.specs.Terms.{In, Allowed, Hidden, Unreached}
 use Rattle.isolation_runs.proofs.Laws.Steps.{Fit}
 
 kind_draining : (x : KindOfFrame) (g : ℕ) → use_of x ≡ S.draining g → x ≡ draining_page g

@@ -4,7 +4,6 @@ use Prim.Native.Nat.{ℕ}
 use Rattle.model.specs.State.{State}
 use Rattle.model.specs.Changes.{Choice}
 use Rattle.model.specs.Machine as M
-use Rattle.monitor.specs.Answers as A
 use Rattle.isolation_runs.specs.Calls.{Call, Create, Give, Take, Map, Unmap, Share, Unshare, Destroy, Invalidated, defined, in_model}
 
 pub defined_is : (c : Call) (s : State) (pick : ℕ → ℕ) → defined c s pick ≡ M.answer s (in_model c pick)

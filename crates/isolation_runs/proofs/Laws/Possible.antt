@@ -11,7 +11,7 @@ use Rattle.model.specs.Operations.{Out, refuse, done}
 use Rattle.model.specs.Machine as M
 use Rattle.model.proofs.Invariant.Answer.{then_is}
 use Rattle.model_moves.specs.Spaces.{Spaces}
-use Rattle.model_moves.specs.Cache.{Caches, Looks, Table, from_kept, Translation, kept, Level, kept_level, forget}
+use Rattle.model_moves.specs.Cache.{Caches, Looks, from_kept, kept, kept_level, forget}
 use Rattle.model_moves.specs.Path.{Path, here, move, report, Watched, at_end, at_move, at_report, Way}
 use Rattle.model_moves.proofs.Laws.Paths.{stay}
 use Rattle.model_paths.specs.View.{view}

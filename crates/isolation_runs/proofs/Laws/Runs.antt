@@ -3,27 +3,25 @@
 use mathlib.Core.Path.{◌≡◌, refl, sym, ap, subst}
 use mathlib.Core.Bool.{Bool, true, false, ◌&&◌}
 use mathlib.Core.List.{List}
-use Prim.Native.Nat.{ℕ, ◌≤◌}
+use Prim.Native.Nat.{ℕ}
 use native.Mathlib.Omega.{arith}
 use lib.Dec.{ltb}
 use Rattle.memory.specs.Ram.{ram_fits}
 use Rattle.model.specs.Operations.{done, check, set_up, started}
-use Rattle.model_moves.specs.Spaces.{monitor}
-use Rattle.model_moves.specs.Cache.{Caches, nothing_kept}
+use Rattle.model_moves.specs.Cache.{Caches}
 use Rattle.model_moves.specs.Machine as G
 use Rattle.model_moves.specs.Terms.{Start, Bounded}
 use Rattle.model_moves.proofs.Laws.Paths.{joined}
 use Rattle.model_moves.proofs.Invariant.Allowed.{start_good}
-use Rattle.model_moves.proofs.Invariant.Always as A
 use Rattle.model_paths.specs.View.{use_of}
 use Rattle.model_paths.specs.Goes.{Ready}
 use Rattle.model_paths.proofs.Ready.{set_up_ready}
-use Rattle.ledger.specs.Layout.{word_of, state_in, state_of}
+use Rattle.ledger.specs.Layout.{word_of, state_of}
 use Rattle.ledger.specs.Sound.{Sound}
 use Rattle.monitor.specs.Answers.{Outcome}
 use Rattle.monitor.specs.SetUp.{slices_fit}
 use Rattle.isolation_runs.specs.Slices.{Slices, spaces, machine, Run, stop, then, Begun}
-use Rattle.isolation_runs.proofs.Laws.Steps.{Fit, fit_ready, step_run, step_fits}
+use Rattle.isolation_runs.proofs.Laws.Steps.{Fit, step_run, step_fits}
 
 -- set_up refuses with 4, and never with 0
 pub accepted : (t : Bool) (b n k : ℕ) (m l l' : List ℕ) → Outcome (set_up t b n k (word_of m)) m l 0 m l' →

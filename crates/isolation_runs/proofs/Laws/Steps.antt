@@ -1,6 +1,6 @@
 -- Each step of the two slices is a run of moves; and what the operations, and their paths, count on holds again after it (Fit).
 use mathlib.Core.Path.{◌≡◌, refl, sym, ap, ◌∙◌, subst}
-use mathlib.Core.Bool.{true, false, true≢false}
+use mathlib.Core.Bool.{true, true≢false}
 use mathlib.Core.Logic.{inl, inr}
 use mathlib.Core.List.{List}
 use Prim.Native.Nat.{ℕ, ◌+◌, ◌*◌, ◌<◌, ◌/◌, ◌%◌}
@@ -22,7 +22,7 @@ use Rattle.model_moves.specs.Machine.{Machine, moves, looks, stores}
 use Rattle.model_moves.specs.Machine as G
 use Rattle.model_moves.proofs.Laws.Paths.{watched_run}
 use Rattle.model_moves.proofs.Invariant.Holds.{Good, run_good, store_frame, belongs_untabled}
-use Rattle.model_paths.specs.View.{use_of, view}
+use Rattle.model_paths.specs.View.{view}
 use Rattle.model_paths.specs.Goes.{Ended, Ready}
 use Rattle.model_paths.proofs.Ended.{answer_ended}
 use Rattle.model_paths.proofs.Laws.View.{words_low}
@@ -34,7 +34,7 @@ use Rattle.ledger.proofs.Laws.Words.{word_stored}
 use Rattle.ledger.proofs.Laws.Beside.{sound_beside}
 use Rattle.monitor.specs.Answers.{Outcome}
 use Rattle.isolation_runs.specs.Calls.{Call, defined, in_model}
-use Rattle.isolation_runs.specs.Slices.{Slices, spaces, machine, Reaches, Called, Byte, Word, Beside, Looked, Step, called, stored, loaded_byte, loaded_word, looked}
+use Rattle.isolation_runs.specs.Slices.{Slices, spaces, machine, Reaches, Called, Byte, Word, Beside, Step, called, stored, loaded_byte, loaded_word, looked}
 use Rattle.isolation_runs.proofs.Laws.Calls.{defined_is, chooses}
 use Rattle.isolation_runs.proofs.Laws.StoredByte.{state_put}
 

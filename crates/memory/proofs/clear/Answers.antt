@@ -1,7 +1,6 @@
 -- After i turns the first i bytes are 0.
-use Prim.Native.Nat.{◌≤◌, ◌-◌, ◌+◌}
-use mathlib.Core.Path.{◌≡◌, refl, ap, ◌∙◌, sym}
-use lib.ListN.{length, length-set}
+use mathlib.Core.Path.{refl, ap, ◌∙◌, sym}
+use lib.ListN.{length-set}
 use Rattle.memory.specs.Word.{cleared_at}
 use Rattle.memory.proofs.Laws.Words.{cleared_none, cleared_more}
 use native.Mathlib.Omega.{arith}

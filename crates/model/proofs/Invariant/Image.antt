@@ -1,13 +1,12 @@
 -- Bytes and words: a byte of the state is the byte in RAM, and the words of any bytes make a state.
 use mathlib.Core.Path.{◌≡◌, refl, sym, ap, ◌∙◌}
-use mathlib.Core.Bool.{true, ◌&&◌}
+use mathlib.Core.Bool.{true}
 use mathlib.Core.List.{List, [], ◌∷◌}
 use Prim.Native.Nat.{ℕ, zero, suc, ◌+◌, ◌*◌, ◌<◌, ◌/◌, ◌%◌, ◌^◌}
 use native.Mathlib.Omega.{arith}
 use native.Mathlib.Nat.{div-one}
 use lib.ListN.{length, get_or}
-use lib.Dec.{eqb, ltb, leb}
-use borrow.Author.Tests.{eqb-true}
+use lib.Dec.{ltb}
 use Rattle.memory.specs.Ram.{ram_fits}
 use Rattle.memory.proofs.Laws.Ram.{fits_so}
 use Rattle.memory.specs.Word.{word_at}

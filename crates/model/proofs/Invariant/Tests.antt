@@ -5,7 +5,7 @@ use mathlib.Core.Path.{◌≡◌}
 use mathlib.Core.Bool.{false}
 use Prim.Native.Nat.{ℕ}
 use Rattle.model.specs.State.{State}
-use Rattle.model.specs.Operations.{done, map}
+use Rattle.model.specs.Operations.{map}
 use Rattle.model.proofs.Laws.Base.{not_true}
 use Rattle.model.proofs.Invariant.Answer.{Then, then_done, checked}
 

@@ -2,7 +2,7 @@
 use mathlib.Core.Path.{◌≡◌, refl, sym, ap, ◌∙◌}
 use mathlib.Core.Bool.{true, false, true≢false, ◌&&◌, ◌||◌}
 use mathlib.Core.Logic.{◌⊎◌, inl, inr}
-use Prim.Native.Nat.{ℕ, suc, ◌+◌, ◌-◌, ◌≤◌, ◌/◌, ◌%◌}
+use Prim.Native.Nat.{ℕ, suc, ◌+◌, ◌≤◌, ◌/◌, ◌%◌}
 use native.Mathlib.Omega.{arith}
 use lib.Dec.{eqb, ltb, leb}
 use borrow.Author.Tests.{eqb-true, ltb-true, le-leb, le-ltb}
@@ -11,7 +11,7 @@ use Rattle.model.specs.Operations.{shares}
 use Rattle.model.specs.Cache.{Access, reading, writing, executing, grants}
 use Rattle.model.specs.Terms.{lends}
 use Rattle.model_moves.specs.Spaces.{Spaces, FrameUse, monitor, free, claimed, table, emptied, page, draining}
-use Rattle.model_moves.specs.Cache.{kept, Reach}
+use Rattle.model_moves.specs.Cache.{Reach}
 use Rattle.model_moves.specs.Moves.{untabled, Move, put, claim, link, enter, clear, unhook, hand, lend, retire, release, open_space, end, dissolve}
 use Rattle.model_moves.specs.Machine.{Machine, Step, moves, reports, looks, stores}
 use Rattle.model_moves.proofs.Invariant.Core.{use_number, clash}

@@ -1,18 +1,16 @@
 -- What holds after any run from Start.
 use mathlib.Core.Path.{◌≡◌, refl}
 use mathlib.Core.Logic.{inl, inr}
-use Prim.Native.Nat.{ℕ, ◌+◌, ◌≤◌, ◌<◌, ◌/◌}
+use Prim.Native.Nat.{ℕ, ◌+◌, ◌<◌, ◌/◌}
 use Rattle.model.proofs.Laws.Base.{lt?}
-use Rattle.model.specs.Translate.{upper}
 use Rattle.model.specs.Cache.{Access}
-use Rattle.model_moves.specs.Spaces.{Spaces, monitor, page}
-use Rattle.model_moves.specs.Cache.{Table, Translation, Level, Reach}
+use Rattle.model_moves.specs.Spaces.{monitor}
+use Rattle.model_moves.specs.Cache.{Reach}
 use Rattle.model_moves.specs.Machine.{Machine, Run}
 use Rattle.model_moves.specs.Terms.{Start, Reaches, Allowed, Hidden, Bounded}
-use Rattle.model_moves.proofs.Invariant.Found.{found_one, found_one_table}
 use Rattle.model_moves.proofs.Invariant.Holds.{Good, belongs, run_good}
 use Rattle.model_moves.proofs.Invariant.Allowed.{belongs_allowed, reach_allowed, hidden_not, start_good}
-use Rattle.model_moves.proofs.Invariant.Levels.{Levels, found_one_level, found_apart}
+use Rattle.model_moves.proofs.Invariant.Levels.{Levels}
 use Rattle.model_moves.proofs.Invariant.LevelsKept.{run_levels}
 use Rattle.model_moves.proofs.Invariant.Monitors.{monitors_stay}
 

@@ -1,14 +1,14 @@
 -- What a move does to the tables of one space, it does to no other: what they lead to there is the same before and after. The half of the
 -- theorem on two runs that is about tables.
-use mathlib.Core.Path.{◌≡◌, refl, sym, ap, ◌∙◌}
-use mathlib.Core.Bool.{Bool, true, false, cond}
-use mathlib.Core.Logic.{◌⊎◌, inl, inr}
-use Prim.Native.Nat.{ℕ, suc, ◌+◌, ◌/◌, ◌%◌, ◌*◌, ◌<◌}
+use mathlib.Core.Path.{◌≡◌, refl, ap}
+use mathlib.Core.Bool.{cond}
+use mathlib.Core.Logic.{inl, inr}
+use Prim.Native.Nat.{ℕ, ◌+◌, ◌/◌, ◌%◌, ◌*◌, ◌<◌}
 use borrow.Author.Tests.{ne_eqb}
 use Rattle.model.specs.Base.{upd, upd2}
 use Rattle.model.proofs.Laws.Base.{upd_other}
 use Rattle.model.specs.Translate.{upper}
-use Rattle.model.specs.Cache.{descriptor, writing}
+use Rattle.model.specs.Cache.{writing}
 use Rattle.model_moves.specs.Spaces.{Spaces, free, claimed, table, page, draining, Leads, store}
 use Rattle.model_moves.specs.Moves.{Move, put, claim, link, enter, clear, unhook, hand, lend, retire, release, open_space, end, dissolve}
 use Rattle.model_moves.proofs.Invariant.Core.{no_output}

@@ -2,7 +2,7 @@
 use mathlib.Core.Path.{◌≡◌, refl, sym, ap, ◌∙◌}
 use mathlib.Core.Bool.{Bool, true, true≢false}
 use mathlib.Core.Logic.{inl, inr}
-use Prim.Native.Nat.{ℕ, ◌-◌}
+use Prim.Native.Nat.{ℕ}
 use Rattle.model.proofs.Laws.Base.{eq?, upd_at, upd_other}
 use Rattle.model.specs.Base.{upd}
 use Rattle.model_moves.specs.Spaces.{Spaces, Space, exists, with_space, with_stale}

@@ -2,7 +2,7 @@
 use mathlib.Core.Path.{◌≡◌, refl, sym, ap, ◌∙◌}
 use mathlib.Core.Bool.{false, true≢false}
 use mathlib.Core.Logic.{inl, inr}
-use Prim.Native.Nat.{ℕ, suc, ◌-◌, ◌/◌, ◌%◌}
+use Prim.Native.Nat.{ℕ, suc, ◌/◌, ◌%◌}
 use native.Mathlib.Omega.{arith}
 use Rattle.model.proofs.Laws.Base.{lt?}
 use Rattle.model.specs.State.{put_byte}

@@ -2,7 +2,7 @@
 use mathlib.Core.Path.{◌≡◌, refl, sym, ap, ◌∙◌}
 use mathlib.Core.Bool.{Bool, true, false, cond}
 use mathlib.Core.Logic.{◌⊎◌, inl, inr}
-use Prim.Native.Nat.{ℕ, suc, ◌-◌, ◌/◌, ◌%◌}
+use Prim.Native.Nat.{ℕ, suc, ◌/◌, ◌%◌}
 use borrow.Author.Tests.{ne_eqb}
 use Rattle.model.proofs.Laws.Base.{eq?, upd_at, upd_other}
 use Rattle.model.specs.Base.{upd, upd2}
@@ -15,7 +15,6 @@ use Rattle.model_moves.proofs.Invariant.Quiet.{TablesSame}
 use Rattle.model_moves.proofs.Invariant.Ledger.{put_tables, taken_tables, kind_keep, kind_from}
 use Rattle.model_moves.proofs.Invariant.Draining.{retire_tables, release_tables}
 use Rattle.model_moves.proofs.Invariant.Entries.{here?, grown, set_beside, set_here, not_claimed}
-use Rattle.model_moves.proofs.Invariant.Report
 use Rattle.model_moves.proofs.Invariant.Dissolve
 use Rattle.model_moves.proofs.Invariant.End
 use Rattle.model_moves.proofs.Invariant.Link

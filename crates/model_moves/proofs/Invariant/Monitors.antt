@@ -1,11 +1,8 @@
 -- The monitor's frames stay the monitor's.
-use mathlib.Core.Path.{◌≡◌, refl, sym, ap, ◌∙◌}
-use mathlib.Core.Bool.{Bool, true, false}
-use mathlib.Core.Logic.{◌⊎◌, inl, inr}
-use Prim.Native.Nat.{ℕ, ◌+◌, ◌≤◌, ◌<◌, ◌/◌}
-use Rattle.model.proofs.Laws.Base.{bool?, lt?}
-use Rattle.model.specs.Cache.{Access}
-use Rattle.model_moves.specs.Spaces.{Spaces, FrameUse, monitor, free, claimed, table, emptied, page, draining}
+use mathlib.Core.Path.{◌≡◌, refl, sym, ◌∙◌}
+use mathlib.Core.Logic.{inl, inr}
+use Prim.Native.Nat.{ℕ}
+use Rattle.model_moves.specs.Spaces.{Spaces, monitor, free, claimed, table, emptied, page, draining}
 use Rattle.model_moves.specs.Moves.{Move, put, claim, link, enter, clear, unhook, hand, lend, retire, release, open_space, end, dissolve}
 use Rattle.model_moves.specs.Machine.{Machine, Step, moves, reports, looks, stores, Run, stop, then}
 use Rattle.model_moves.proofs.Invariant.Core.{clash}

@@ -9,7 +9,6 @@ use Rattle.model.proofs.Laws.Base.{eq?}
 use Rattle.model.proofs.Laws.Base.{upd2_at, upd2_other}
 use Rattle.model.specs.State.{State, put_byte, byte, page_count}
 use Rattle.model.specs.Translate.{translate}
-use Rattle.model.specs.Cache.{kept}
 use Rattle.model.specs.Machine.{Machine, stored}
 use Rattle.model_noninterference.specs.TwoRunsTerms.{SameBytes}
 use Rattle.model_noninterference.specs.ApartTerms.{Frames}

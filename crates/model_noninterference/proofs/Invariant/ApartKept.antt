@@ -14,7 +14,7 @@ use Rattle.model.specs.Entry.{to_page, entry}
 use Rattle.model.specs.Translate.{entry_at, translate, missing}
 use Rattle.model.specs.Changes.{Choice, zeros, becomes, with_root, with_page, with_mapping, without_page, drained, without_guest, released, clean}
 use Rattle.model.specs.Operations.{Out, refuse, done, create, give, map, unmap, share, unshare, take, destroy, invalidated}
-use Rattle.model.specs.Cache.{Caches, nothing_kept, Translation, kept}
+use Rattle.model.specs.Cache.{Caches, nothing_kept, Translation}
 use Rattle.model.specs.Machine.{Machine, Operation, Create, Give, Take, Map, Unmap, Share, Unshare, Destroy, Invalidated, answer, Chooses, keeps, Run, SetUp}
 use Rattle.model.specs.State.{kind_number, DRAINING_TABLE}
 use Rattle.model.proofs.Invariant.Kinds.{clash, kind_from}

@@ -5,7 +5,7 @@ use mathlib.Core.Logic.{inl, inr}
 use mathlib.Core.Option.{Option, none, some}
 use Prim.Native.Nat.{ℕ, ◌+◌, ◌/◌}
 use native.Mathlib.Omega.{arith}
-use Rattle.model.specs.State.{State, monitor, free, draining_table, page_count}
+use Rattle.model.specs.State.{State, monitor, free, draining_table}
 use Rattle.model.specs.Translate.{Page, translate}
 use Rattle.model.specs.Operations.{Out, refuse, done, at_first, started}
 use Rattle.model.specs.Cache.{nothing_kept, kept, grown}

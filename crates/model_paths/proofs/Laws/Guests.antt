@@ -1,6 +1,6 @@
 -- An operation's deeds about tables, slots and reports are about one guest's space alone.
-use mathlib.Core.Path.{◌≡◌, sym, subst}
-use mathlib.Core.Logic.{◌⊎◌, inl, inr}
+use mathlib.Core.Path.{◌≡◌, subst}
+use mathlib.Core.Logic.{inl, inr}
 use Prim.Native.Nat.{ℕ}
 use Rattle.model.specs.State
 use Rattle.model.specs.Machine.{Operation, Create, Give, Take, Map, Unmap, Share, Unshare, Destroy, Invalidated}

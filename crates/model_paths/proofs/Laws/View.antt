@@ -9,9 +9,7 @@ use borrow.Author.Tests.{eq-eqb, ne_eqb, lt-ltb, le-ltb}
 use Rattle.model.proofs.Laws.Base.{bool?, eq?, lt?, upd_at, upd_other, upd2_at, upd2_other}
 use Rattle.model.specs.Base.{upd, upd2}
 use Rattle.model.specs.State
-use Rattle.model.specs.Invariant as Invariant
-use Rattle.model.proofs.Invariant.Core
-use Rattle.model_moves.specs.Spaces.{Spaces, Space, free, exists, with_word, store}
+use Rattle.model_moves.specs.Spaces.{Spaces, Space, free, with_word, store}
 use Rattle.model_moves.specs.Moves.{untabled, put}
 use Rattle.model_moves.specs.Path.{Deed, puts, Way}
 use Rattle.model_moves.proofs.Laws.Paths.{stay, by, onward, way_to}

@@ -16,7 +16,7 @@ use Rattle.model.specs.Cache.{invalid, descriptor}
 use Rattle.model.specs.Invariant.{Core}
 use Rattle.model.proofs.Invariant.Choice.{first_free}
 use Rattle.model.proofs.Invariant.Answer.{Then, then_done, checked}
-use Rattle.model_moves.specs.Spaces.{Space, free, table, exists, with_word}
+use Rattle.model_moves.specs.Spaces.{Space, free, table, with_word}
 use Rattle.model_moves.specs.Moves.{open_space, Open, rooted}
 use Rattle.model_moves.proofs.Laws.Paths.{stay, by, onward, way_to}
 use Rattle.model_paths.specs.View.{whole_slot, use_of, waits_of, words_of, view}

@@ -14,7 +14,7 @@ use Rattle.model.specs.Cache.{inside}
 use Rattle.model.specs.Invariant.{Core}
 use Rattle.model.proofs.Invariant.Kinds.{page_of_is}
 use Rattle.model.proofs.Invariant.Answer.{then_done, Then, checked}
-use Rattle.model_moves.specs.Spaces.{Spaces, Space, monitor, free, table, page, draining, exists, May, with_space, with_stale}
+use Rattle.model_moves.specs.Spaces.{Spaces, Space, table, page, draining, exists, May, with_space, with_stale}
 use Rattle.model_moves.specs.Moves.{end, retire, Retire, closed}
 use Rattle.model_moves.proofs.Invariant.Core
 use Rattle.model_moves.proofs.Invariant.Ledger.{shares_none}

@@ -2,7 +2,7 @@
 use mathlib.Core.Path.{◌≡◌, refl, sym, ap, ◌∙◌}
 use mathlib.Core.Bool.{Bool, true, false, true≢false, ◌&&◌, cond}
 use mathlib.Core.Logic.{◌⊎◌, inl, inr}
-use Prim.Native.Nat.{ℕ, ◌-◌}
+use Prim.Native.Nat.{ℕ}
 use lib.Dec.{eqb, ltb}
 use borrow.Author.Tests.{eqb-true, eq-eqb}
 use Rattle.model.proofs.Laws.Base.{bool?, eq?, and_true, upd_at, upd_same, upd_other}
@@ -13,7 +13,7 @@ use Rattle.model.specs.Operations.{give, take}
 use Rattle.model.specs.Invariant.{Core}
 use Rattle.model.proofs.Invariant.Kinds.{free_is, page_of_is}
 use Rattle.model.proofs.Invariant.Answer.{Then, then_done, checked}
-use Rattle.model_moves.specs.Spaces.{Spaces, free, emptied, page, draining, exists, with_kind, with_shared, with_word}
+use Rattle.model_moves.specs.Spaces.{Spaces, free, emptied, page, draining, with_kind, with_shared, with_word}
 use Rattle.model_moves.specs.Moves.{hand, retire, release, Retire}
 use Rattle.model_moves.proofs.Laws.Paths.{stay, by, onward, way_to}
 use Rattle.model_paths.specs.View.{whole_slot, use_of, waits_of, words_of, view}

@@ -12,9 +12,8 @@ use Rattle.model.specs.Changes.{released, clean}
 use Rattle.model.specs.Operations.{invalidated}
 use Rattle.model.specs.Invariant.{Core}
 use Rattle.model.proofs.Invariant.Answer.{Then, then_done, checked}
-use Rattle.model_moves.specs.Spaces.{Spaces, FrameUse, monitor, free, table, emptied, page, draining, exists}
+use Rattle.model_moves.specs.Spaces.{Spaces, FrameUse, free, emptied, draining}
 use Rattle.model_moves.specs.Moves.{release, dissolve, of_space, turned, reported}
-use Rattle.model_moves.proofs.Invariant.Core
 use Rattle.model_paths.specs.View.{whole_slot, use_of, waits_of, view}
 use Rattle.model_paths.proofs.Laws.View.{same}
 use Rattle.model_paths.specs.Goes.{Does, Goes, Ended}

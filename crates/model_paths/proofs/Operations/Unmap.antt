@@ -10,7 +10,7 @@ use Rattle.model.specs.Base.{upd}
 use Rattle.model.specs.State
 use Rattle.model.specs.Entry.{to_page}
 use Rattle.model.proofs.Laws.Entry.{descriptor_empty, is_to_page, descriptor_page, page_low}
-use Rattle.model.specs.Translate.{upper, translate, leaf, entry_at}
+use Rattle.model.specs.Translate.{upper, translate, entry_at}
 use Rattle.model.specs.Cache.{descriptor}
 use Rattle.model.specs.Changes.{without_page}
 use Rattle.model.specs.Operations.{unmap}

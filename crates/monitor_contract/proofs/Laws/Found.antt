@@ -10,7 +10,6 @@ use Rattle.walk.specs.Both.{stage_2}
 use Rattle.model.specs.State.{State}
 use Rattle.model.specs.Translate.{Page}
 use Rattle.model.specs.Operations.{Out, done, refusal, check}
-use Rattle.model.specs.Machine as M
 use Rattle.model.specs.Bytes.{Image, access, comes}
 use Rattle.model.proofs.Invariant.RoundTrip.{AskedAt, walk_asked}
 use Rattle.ledger.specs.Layout.{root_of, state_in, state_of}

@@ -1,7 +1,7 @@
 -- Check by check, in the order of the definition.
 use mathlib.Core.Path.{◌∙◌, ap, refl, sym}
 use mathlib.Core.Bool.{not}
-use borrow.Author.Tests.{not-false, lt-leb, le-leb}
+use borrow.Author.Tests.{lt-leb, le-leb}
 use Rattle.model.specs.State.{free_frames}
 use Rattle.model.specs.Operations.{create}
 use Rattle.ledger.specs.Layout.{exists_of, dirty_of, state_in, state_of}

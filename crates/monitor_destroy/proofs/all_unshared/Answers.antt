@@ -1,8 +1,5 @@
 -- After f turns, the test holds of the first f frames.
-use mathlib.Core.Bool.{true}
 use mathlib.Core.Path.{◌≡◌, ◌∙◌, sym}
-use Prim.Native.Nat.{ℕ, ◌-◌, ◌≤◌}
-use Rattle.model.specs.Base.{all}
 use Rattle.model.specs.Operations.{unshared}
 use Rattle.ledger.specs.Layout.{size_of, state_in, state_of}
 use Rattle.monitor_destroy.proofs.Laws.Destroy.{all_none, all_more, all_false}

@@ -1,9 +1,9 @@
 use mathlib.Core.Bool.{true}
-use mathlib.Core.Path.{◌≡◌, ◌∙◌, sym}
-use Prim.Native.Nat.{ℕ, ◌-◌, ◌≤◌}
+use mathlib.Core.Path.{◌≡◌}
+use Prim.Native.Nat.{◌-◌, ◌≤◌}
 use Rattle.model.specs.Base.{all}
 use Rattle.model.specs.Operations.{unshared}
-use Rattle.ledger.specs.Layout.{size_of, state_in, state_of}
+use Rattle.ledger.specs.Layout.{state_of}
 use Rattle.monitor_destroy.proofs.all_unshared.Given as goal
 
 abbrev pub invariant-loop-f : goal.invariant-loop-f

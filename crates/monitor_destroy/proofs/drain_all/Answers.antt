@@ -1,11 +1,10 @@
 -- After f turns, the first f frames drain and g's counts of them are 0.
 use mathlib.Core.Path.{◌≡◌, refl}
-use Prim.Native.Nat.{ℕ, ◌-◌, ◌≤◌}
 use Rattle.model.specs.Changes.{drained}
 use Rattle.ledger.specs.Layout.{size_of}
 use Rattle.ledger.specs.Fields.{remade, with_kind, with_kind_by}
 use Rattle.monitor_contract.proofs.Laws.Answers.{still_low}
-use Rattle.monitor_contract.specs.EachFrame.{turned_below, without}
+use Rattle.monitor_contract.specs.EachFrame.{without}
 use Rattle.monitor_contract.proofs.Laws.EachFrame.{none_turned, one_more_turned, turned_low, drain_turn}
 use native.Mathlib.Omega.{arith}
 use Rattle.monitor_destroy.proofs.drain_all.Goals as goal

@@ -2,7 +2,7 @@
 use mathlib.Core.Path.{◌∙◌, ap, sym}
 use Prim.Native.Nat.{ℕ}
 use lib.Dec.{eqb}
-use borrow.Author.Tests.{not-false, eq-eqb, ne_eqb}
+use borrow.Author.Tests.{eq-eqb, ne_eqb}
 use Rattle.ledger.specs.Layout.{shared_of}
 use Rattle.monitor_destroy.proofs.Laws.Destroy.{no_page, with_it, of_another, of_it}
 use Rattle.monitor_destroy.proofs.unshared.Goals as goal

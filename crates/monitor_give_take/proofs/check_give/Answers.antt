@@ -2,7 +2,7 @@
 use mathlib.Core.Path.{◌∙◌, refl, sym}
 use Rattle.model.specs.Operations.{give}
 use Rattle.ledger.specs.Layout.{size_of, state_in}
-use borrow.Author.Tests.{not-false, lt-ltb, le-ltb}
+use borrow.Author.Tests.{lt-ltb, le-ltb}
 use Rattle.monitor_contract.proofs.Laws.Answers.{stops, goes_on}
 use native.Mathlib.Omega.{arith}
 use Rattle.monitor_give_take.proofs.check_give.Goals as goal

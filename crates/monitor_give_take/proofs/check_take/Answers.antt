@@ -4,7 +4,7 @@ use lib.Dec.{eqb}
 use Rattle.model.specs.State.{total}
 use Rattle.model.specs.Operations.{take}
 use Rattle.ledger.specs.Layout.{size_of, count_of, shared_of, state_in}
-use borrow.Author.Tests.{not-false, lt-ltb, le-ltb, eq-eqb, ne_eqb}
+use borrow.Author.Tests.{lt-ltb, le-ltb, eq-eqb, ne_eqb}
 use Rattle.monitor_contract.proofs.Laws.Answers.{stops, goes_on, and_left, and_right, and_both}
 use native.Mathlib.Omega.{arith}
 use Rattle.monitor_give_take.proofs.check_take.Goals as goal

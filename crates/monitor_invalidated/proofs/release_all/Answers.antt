@@ -1,9 +1,8 @@
 -- After f turns, the first f frames are released.
-use mathlib.Core.Path.{◌≡◌, refl, ◌∙◌}
-use Prim.Native.Nat.{ℕ, ◌-◌, ◌≤◌}
+use mathlib.Core.Path.{◌≡◌, refl}
 use Rattle.model.specs.Changes.{released}
 use Rattle.ledger.specs.Layout.{size_of}
-use Rattle.monitor_contract.specs.EachFrame.{turned_below, same}
+use Rattle.monitor_contract.specs.EachFrame.{same}
 use Rattle.monitor_contract.proofs.Laws.EachFrame.{none_turned, one_more_turned, turned_low, release_turn}
 use native.Mathlib.Omega.{arith}
 use Rattle.monitor_invalidated.proofs.release_all.Goals as goal

@@ -5,7 +5,7 @@ use Rattle.model.specs.Operations.{may_map}
 use Rattle.ledger.specs.Layout.{size_of, state_in}
 use Rattle.ledger.proofs.Laws.Fields.{guest_low}
 use Rattle.ledger.proofs.Laws.Sound.{guest_there}
-use borrow.Author.Tests.{not-false, lt-ltb, le-ltb}
+use borrow.Author.Tests.{lt-ltb, le-ltb}
 use Rattle.monitor_contract.proofs.Laws.Answers.{stops, goes_on}
 use native.Mathlib.Omega.{arith}
 use Rattle.monitor_map.proofs.check_map.Goals as goal

@@ -1,6 +1,6 @@
 -- The missing tables are made, from the highest on; then the entry is written and the place counted.
 use Rattle.monitor_tables.proofs.Laws.NewTable.{grow_guest, grow_words, grow_room}
-use Rattle.monitor_map.proofs.Laws.Map.{Filling, fill_start, fill_more, fill_low, fill_count, map_end}
+use Rattle.monitor_map.proofs.Laws.Map.{fill_start, fill_more, fill_low, fill_count, map_end}
 use native.Mathlib.Omega.{arith}
 use Rattle.monitor_map.proofs.do_map.Goals as goal
 

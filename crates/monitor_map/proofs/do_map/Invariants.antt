@@ -1,5 +1,5 @@
 use Prim.Native.Nat.{◌/◌}
-use Rattle.monitor_map.proofs.Laws.Map.{Filling, fill_start, fill_more, fill_low, fill_count, map_end}
+use Rattle.monitor_map.proofs.Laws.Map.{Filling}
 use Rattle.monitor_map.proofs.do_map.Given as goal
 
 abbrev pub invariant-loop-height : goal.invariant-loop-height

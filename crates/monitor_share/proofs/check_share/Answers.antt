@@ -1,11 +1,11 @@
 -- Check by check, in the order of the definition; the last two are those of held.
-use mathlib.Core.Path.{◌∙◌, ap, refl, sym}
+use mathlib.Core.Path.{◌∙◌, ap, sym}
 use mathlib.Core.Bool.{not, ◌&&◌}
 use lib.Dec.{eqb, leb}
 use Rattle.model.specs.Operations.{share}
-use Rattle.ledger.specs.Layout.{size_of, exists_of, shared_of, count_of, dirty_of, state_in, state_of}
+use Rattle.ledger.specs.Layout.{size_of, exists_of, shared_of, count_of, dirty_of, state_in}
 use Rattle.ledger.proofs.Laws.Sound.{guest_there}
-use borrow.Author.Tests.{not-false, lt-ltb, lt-leb, le-leb, le-ltb, eq-eqb, ne_eqb}
+use borrow.Author.Tests.{lt-ltb, lt-leb, le-leb, le-ltb, eq-eqb, ne_eqb}
 use Rattle.monitor_contract.proofs.Laws.Answers.{stops, goes_on, and_left, and_right, and_both}
 use Rattle.monitor_share.proofs.Laws.Share.{narrow_out, wide_out}
 use native.Mathlib.Omega.{arith}

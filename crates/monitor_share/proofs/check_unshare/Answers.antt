@@ -1,11 +1,10 @@
 -- Check by check, in the order of the definition; the last two are those of held.
 use mathlib.Core.Path.{◌∙◌, sym}
-use lib.Dec.{ltb}
 use Rattle.model.specs.State.{is_page_of}
 use Rattle.model.specs.Operations.{unshare}
 use Rattle.ledger.specs.Layout.{size_of, exists_of, kind_of, shared_of, count_of, dirty_of, state_in}
 use Rattle.ledger.proofs.Laws.Sound.{guest_there}
-use borrow.Author.Tests.{not-false, lt-ltb, le-ltb}
+use borrow.Author.Tests.{lt-ltb, le-ltb}
 use Rattle.monitor_contract.proofs.Laws.Answers.{stops, goes_on, and_left, and_right, and_both}
 use Rattle.monitor_share.proofs.Laws.Share.{held_out}
 use native.Mathlib.Omega.{arith}

@@ -1,4 +1,4 @@
-use mathlib.Core.Path.{◌≡◌, refl, ◌∙◌}
+use mathlib.Core.Path.{◌≡◌}
 use lib.ListN.{length}
 use Rattle.pageledger.specs.Progress.{ProgressSound}
 use Rattle.pageledger.proofs.read_input.Given as goal

@@ -16,7 +16,6 @@ use Rattle.script_language.specs.declared.arguments.Argument.{Argument}
 use Rattle.script_language.specs.declared.arguments.Argument.TheVariants.{Given, Wrong}
 use Rattle.script_language.specs.declared.Reason.{Reason}
 use Rattle.script_language.specs.declared.Reason.TheVariants.{TooFewWords, TooManyWords}
-use Rattle.script_language.specs.declared.Line.{Line}
 use Rattle.script_language.specs.declared.Line.TheVariants.{Empty, Asks, Unreadable}
 use Rattle.script_text.specs.Words.{after_blanks, WordEnds}
 use Rattle.script_language.specs.Names.{most_arguments, argument_at, command_with, first_word}

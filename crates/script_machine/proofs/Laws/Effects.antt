@@ -7,7 +7,7 @@ use native.Mathlib.Omega.{arith}
 use lib.Dec.{leb, ltb, eqb}
 use lib.ListN.{length, take, drop}
 use lib.Seq.{length-take-le, length_front, take_at, drop_at, take-set-lt}
-use borrow.Author.Tests.{leb-true, ltb-true, eqb-true, ne_eqb}
+use borrow.Author.Tests.{leb-true, ltb-true, ne_eqb}
 use Rattle.memory.specs.Ram.{frame_bytes, ram_fits}
 use Rattle.memory.proofs.Laws.Ram.{RamFits, fits as place_fits, fits_so}
 use Rattle.memory.specs.Word.{stored_at, cleared_at}

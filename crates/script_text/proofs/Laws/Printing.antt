@@ -2,14 +2,14 @@
 use Prim.Native.Nat.{ℕ, zero, suc, ◌+◌, ◌-◌, ◌/◌, ◌%◌, ◌≤◌, ◌<◌}
 use Prim.Native.Char.{code}
 use mathlib.Core.Path.{◌≡◌, refl, sym, ap, ◌∙◌}
-use mathlib.Core.Bool.{Bool, true, false, cond}
+use mathlib.Core.Bool.{cond}
 use mathlib.Core.List.{List, [], ◌∷◌, ◌++◌, append_assoc, append-nil}
 use native.Mathlib.Numerals.{add-one}
 use native.Mathlib.Nat.{add-zero, not-suc-le-zero}
 use native.Mathlib.Omega.{arith}
 use lib.Dec.{eqb}
-use lib.ListN.{length, get_or, set, take, drop, length-append, length-drop, length-take, length-set, drop_of_length-le}
-use lib.Seq.{drop-cons, take-suc, take-suc-set, take-length, take_all, drop-length, set_split, drop_at, length-take-le}
+use lib.ListN.{length, get_or, set, take, drop, length-append, length-drop}
+use lib.Seq.{drop-cons, take-suc, take-suc-set, take_all, drop-length, set_split, drop_at, length-take-le}
 use borrow.Author.Tests.{eq-eqb, ne_eqb}
 use Rattle.script_text.specs.Digits.{digit_character, digits, without_zeros}
 use Rattle.script_text.specs.Wrote.{Wrote}

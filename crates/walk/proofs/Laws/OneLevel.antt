@@ -7,9 +7,8 @@ use lib.Dec.{eqb}
 use Rattle.walk_descriptor.specs.declared.FaultKind.TheVariants.{Translation, NotModelled, AccessFlag, Permission}
 use Rattle.walk_level.specs.declared.Step.{Step}
 use Rattle.walk_level.specs.declared.Step.TheVariants.{Absent, Down, Output, Fail}
-use Rattle.walk_descriptor.specs.Descriptor.{span, slot, bit, address, is_table, is_valid, is_modelled, allows, last_level, low_bits}
+use Rattle.walk_descriptor.specs.Descriptor.{span, slot, bit, address, is_table, is_valid, is_modelled, last_level, low_bits}
 use Rattle.walk_level.specs.Stage.{Stage, valid, leaf, meaning, walk_from}
-use Rattle.walk.specs.Both.{fault}
 use Rattle.walk_level.specs.Step.{step_of}
 
 and_false : (x : Bool) → (x && false) ≡ false

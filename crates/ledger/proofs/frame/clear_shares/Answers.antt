@@ -1,7 +1,7 @@
 -- After g turns, guests 1 to g share nothing.
-use mathlib.Core.Path.{◌≡◌, refl}
-use Prim.Native.Nat.{ℕ, ◌-◌, ◌+◌, ◌≤◌}
-use Rattle.ledger.proofs.Laws.Fields.{guest_is, unshared_to}
+use mathlib.Core.Path.{refl}
+use Prim.Native.Nat.{◌+◌}
+use Rattle.ledger.proofs.Laws.Fields.{guest_is}
 use Rattle.ledger.proofs.Laws.Stores.{unshared_none, unshared_low, unshared_more, unshared_all}
 use native.Mathlib.Omega.{arith}
 use Rattle.ledger.proofs.frame.clear_shares.Goals as goal

@@ -1,8 +1,8 @@
-use mathlib.Core.Path.{◌≡◌, refl}
-use Prim.Native.Nat.{ℕ, ◌-◌, ◌+◌, ◌≤◌}
+use mathlib.Core.Path.{◌≡◌}
+use Prim.Native.Nat.{◌-◌, ◌≤◌}
 use lib.ListN.{length}
 use Rattle.model.specs.State.{guests}
-use Rattle.ledger.proofs.Laws.Fields.{guest_is, unshared_to}
+use Rattle.ledger.proofs.Laws.Fields.{unshared_to}
 use Rattle.ledger.specs.LedgerSound.{Changed}
 use Rattle.ledger.proofs.frame.clear_shares.Given as goal
 

@@ -1,7 +1,7 @@
 -- After g turns, there are the places and the shares of guests 1 to g.
-use Prim.Native.Nat.{ℕ, ◌-◌, ◌+◌, ◌*◌, ◌≤◌}
+use Prim.Native.Nat.{◌+◌}
 use Rattle.ledger.specs.Layout.{shared_of, count_of}
-use Rattle.ledger.proofs.Laws.Fields.{guest_is, so_far, none_yet, one_more, all_told}
+use Rattle.ledger.proofs.Laws.Fields.{guest_is, none_yet, one_more, all_told}
 use native.Mathlib.Omega.{arith}
 use Rattle.ledger.proofs.frame.uses.Goals as goal
 

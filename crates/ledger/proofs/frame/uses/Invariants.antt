@@ -1,9 +1,9 @@
-use Prim.Native.Nat.{ℕ, ◌-◌, ◌+◌, ◌*◌, ◌≤◌}
+use Prim.Native.Nat.{◌-◌, ◌*◌, ◌≤◌}
 use mathlib.Core.Path.{◌≡◌}
 use Rattle.model.specs.State.{guests}
 use Rattle.ledger.specs.Columns.{SHARE_UNIT}
 use Rattle.ledger.specs.Layout.{shared_of, count_of}
-use Rattle.ledger.proofs.Laws.Fields.{guest_is, so_far, none_yet, one_more, all_told}
+use Rattle.ledger.proofs.Laws.Fields.{so_far}
 use Rattle.ledger.proofs.frame.uses.Given as goal
 
 abbrev pub invariant-loop-g : goal.invariant-loop-g

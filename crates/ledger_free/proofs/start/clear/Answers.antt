@@ -1,6 +1,6 @@
 -- After i turns, the first i words are 0.
 use mathlib.Core.Path.{◌≡◌, refl, ap, ◌∙◌, sym}
-use Prim.Native.Nat.{ℕ, ◌-◌, ◌+◌, ◌≤◌}
+use Prim.Native.Nat.{ℕ, ◌+◌}
 use lib.ListN.{length, set, length-set}
 use Rattle.memory.specs.Word.{cleared_at}
 use Rattle.memory.proofs.Laws.Words.{cleared_none, cleared_more}

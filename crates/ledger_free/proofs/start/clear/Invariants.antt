@@ -1,6 +1,6 @@
-use mathlib.Core.Path.{◌≡◌, refl, ap, ◌∙◌, sym}
-use Prim.Native.Nat.{ℕ, ◌-◌, ◌+◌, ◌≤◌}
-use lib.ListN.{length, set, length-set}
+use mathlib.Core.Path.{◌≡◌}
+use Prim.Native.Nat.{◌-◌, ◌≤◌}
+use lib.ListN.{length}
 use Rattle.memory.specs.Word.{cleared_at}
 use Rattle.ledger_free.proofs.start.clear.Given as goal
 

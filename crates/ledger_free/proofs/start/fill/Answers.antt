@@ -1,6 +1,5 @@
 -- After f turns, the rows of the first f frames are filled.
 use mathlib.Core.Path.{◌≡◌, refl}
-use Prim.Native.Nat.{ℕ, ◌-◌, ◌≤◌}
 use Rattle.ledger_free.proofs.Laws.Start.{filled_none}
 use native.Mathlib.Omega.{arith}
 use Rattle.ledger_free.proofs.start.fill.Goals as goal

@@ -1,4 +1,4 @@
-use Rattle.ledger.specs.Layout.{word_of, state_of}
+use Rattle.ledger.specs.Layout.{state_of}
 use Rattle.monitor_tables.specs.Way.{Reached}
 use Rattle.monitor_tables.proofs.way.descend.Given as goal
 

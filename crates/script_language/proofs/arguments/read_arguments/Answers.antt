@@ -1,10 +1,8 @@
 -- After i arguments those of the definition are the first i of a, and then those of the words from `at` on.
-use Prim.Native.Nat.{◌-◌}
 use mathlib.Core.Path.{ap, ◌∙◌}
 use Rattle.script_language.specs.declared.Line.TheVariants.{Asks}
-use Rattle.script_language.specs.Names.{forms_of, command_numbers, access_and_level}
 use Rattle.script_language.proofs.Laws.Forms.{command_fits}
-use Rattle.script_language.proofs.Laws.Parsing.{Reading, reading_none, reading_more, too_few, too_many, wrong_word, all_read}
+use Rattle.script_language.proofs.Laws.Parsing.{reading_none, reading_more, too_few, too_many, wrong_word, all_read}
 use native.Mathlib.Omega.{arith}
 use Rattle.script_language.proofs.arguments.read_arguments.Goals as goal
 

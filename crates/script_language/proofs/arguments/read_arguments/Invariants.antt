@@ -1,6 +1,6 @@
 use Prim.Native.Nat.{◌-◌}
 use Rattle.script_language.specs.Names.{forms_of, command_numbers, access_and_level}
-use Rattle.script_language.proofs.Laws.Parsing.{Reading, reading_none, reading_more, too_few, too_many, wrong_word, all_read}
+use Rattle.script_language.proofs.Laws.Parsing.{Reading}
 use Rattle.script_language.proofs.arguments.read_arguments.Given as goal
 
 abbrev pub invariant-loop-i : goal.invariant-loop-i

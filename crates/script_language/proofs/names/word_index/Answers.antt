@@ -1,7 +1,6 @@
 -- The words of the text before the one at `at` are none of them w.
-use Prim.Native.Nat.{◌-◌}
 use mathlib.Core.Path.{◌∙◌, sym}
-use Rattle.script_language.proofs.Laws.Names.{Passed, passed_none, passed_more, found_here, found_none}
+use Rattle.script_language.proofs.Laws.Names.{passed_none, passed_more, found_here, found_none}
 use native.Mathlib.Omega.{arith}
 use Rattle.script_language.proofs.names.word_index.Goals as goal
 

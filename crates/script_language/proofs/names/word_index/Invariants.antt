@@ -1,5 +1,5 @@
 use Prim.Native.Nat.{◌-◌}
-use Rattle.script_language.proofs.Laws.Names.{Passed, passed_none, passed_more, found_here, found_none}
+use Rattle.script_language.proofs.Laws.Names.{Passed}
 use Rattle.script_language.proofs.names.word_index.Given as goal
 
 abbrev pub invariant-loop-k : goal.invariant-loop-k

@@ -1,7 +1,6 @@
 -- What is allowed is in the slices, and the monitor's set_up takes it.
-use Prim.Native.Nat.{◌+◌, ◌*◌, ◌/◌}
+use Prim.Native.Nat.{◌*◌}
 use mathlib.Core.Path.{◌∙◌, refl, sym}
-use lib.ListN.{length}
 use lib.Seq.{length-take-le}
 use Rattle.ledger.specs.Layout.{words_for}
 use Rattle.memory.specs.Ram.{frame_bytes}

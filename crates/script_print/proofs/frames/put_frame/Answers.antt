@@ -1,5 +1,5 @@
 -- By what the frame is.
-use mathlib.Core.Path.{◌∙◌, sym}
+use mathlib.Core.Path.{sym}
 use Rattle.script_print.specs.Frame.{frame_kind_text, frame_text}
 use Rattle.script_text.proofs.Laws.Printing.{wrote_within}
 use native.Mathlib.Omega.{arith}

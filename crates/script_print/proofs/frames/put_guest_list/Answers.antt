@@ -1,6 +1,5 @@
 -- After g turns the guests 1 to g are told.
-use Prim.Native.Nat.{◌+◌, ◌*◌, ◌-◌, ◌≤◌}
-use mathlib.Core.Path.{◌≡◌, refl}
+use mathlib.Core.Path.{refl}
 use Rattle.ledger.specs.Layout.{state_of}
 use Rattle.monitor_query.specs.Questions.{share_told}
 use Rattle.script_print.proofs.Laws.Listing.{list_none, list_passed, list_more, list_empty, list_full}

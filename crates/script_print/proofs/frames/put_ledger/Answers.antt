@@ -1,8 +1,6 @@
 -- After f turns the frames 0 to f - 1 are told.
-use Prim.Native.Nat.{◌+◌, ◌*◌, ◌-◌, ◌≤◌}
-use mathlib.Core.Path.{◌≡◌, refl}
+use mathlib.Core.Path.{refl}
 use Rattle.ledger.specs.Layout.{state_of, state_in}
-use Rattle.script_print.specs.Frame.{line_bytes, lines_to}
 use Rattle.script_print.proofs.Laws.Listing.{lines_none, lines_more, lines_all}
 use native.Mathlib.Omega.{arith}
 use Rattle.script_print.proofs.frames.put_ledger.Goals as goal

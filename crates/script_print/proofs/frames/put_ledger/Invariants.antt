@@ -1,8 +1,8 @@
-use Prim.Native.Nat.{◌+◌, ◌*◌, ◌-◌, ◌≤◌}
-use mathlib.Core.Path.{◌≡◌, refl}
+use Prim.Native.Nat.{◌*◌, ◌-◌, ◌≤◌}
+use mathlib.Core.Path.{◌≡◌}
 use lib.ListN.{length}
 use Rattle.script_text.specs.Wrote.{Wrote}
-use Rattle.ledger.specs.Layout.{state_of, state_in}
+use Rattle.ledger.specs.Layout.{state_of}
 use Rattle.script_print.specs.Frame.{line_bytes, lines_to}
 use Rattle.script_print.proofs.frames.put_ledger.Given as goal
 

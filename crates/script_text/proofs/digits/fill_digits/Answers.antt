@@ -1,8 +1,7 @@
 -- The digits from i on are there, and those before it are the rest's.
-use Prim.Native.Nat.{◌≤◌, ◌-◌}
-use mathlib.Core.Path.{◌≡◌, refl, ◌∙◌}
+use mathlib.Core.Path.{refl}
 use native.Mathlib.Nat.{mod-lt}
-use lib.ListN.{length, length-set, drop}
+use lib.ListN.{length-set}
 use Rattle.script_text.proofs.Laws.Printing.{spell_none, spell_more, spell_all}
 use native.Mathlib.Omega.{arith}
 use Rattle.script_text.proofs.digits.fill_digits.Goals as goal

@@ -1,6 +1,5 @@
 -- Only zeros were passed, and a digit is left.
-use Prim.Native.Nat.{◌≤◌, ◌-◌}
-use mathlib.Core.Path.{◌≡◌, refl}
+use mathlib.Core.Path.{refl}
 use Rattle.script_text.proofs.Laws.Printing.{zeros_stop, zeros_more, zeros_last}
 use borrow.Author.Rules.{rules}
 use native.Mathlib.Omega.{arith}

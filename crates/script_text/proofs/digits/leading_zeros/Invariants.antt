@@ -1,5 +1,5 @@
 use Prim.Native.Nat.{◌≤◌, ◌-◌}
-use mathlib.Core.Path.{◌≡◌, refl}
+use mathlib.Core.Path.{◌≡◌}
 use lib.ListN.{length, drop}
 use Rattle.script_text.specs.Digits.{without_zeros}
 use Rattle.script_text.proofs.digits.leading_zeros.Given as goal

@@ -1,7 +1,6 @@
 -- After i bytes the first i of the text stand behind what was there.
-use Prim.Native.Nat.{◌+◌, ◌≤◌, ◌-◌}
-use mathlib.Core.Path.{◌≡◌, refl, ◌∙◌}
-use lib.ListN.{length, length-set, take}
+use mathlib.Core.Path.{refl}
+use lib.ListN.{length-set}
 use Rattle.script_text.proofs.Laws.Printing.{put_none, put_more, put_all}
 use borrow.Author.Rules.{rules}
 use native.Mathlib.Omega.{arith}

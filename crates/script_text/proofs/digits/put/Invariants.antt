@@ -1,7 +1,7 @@
 use Prim.Native.Nat.{◌+◌, ◌≤◌, ◌-◌}
-use mathlib.Core.Path.{◌≡◌, refl, ◌∙◌}
+use mathlib.Core.Path.{◌≡◌}
 use mathlib.Core.List.{◌++◌}
-use lib.ListN.{length, length-set, take}
+use lib.ListN.{length, take}
 use Rattle.script_text.proofs.digits.put.Given as goal
 
 abbrev pub invariant-loop-i : goal.invariant-loop-i

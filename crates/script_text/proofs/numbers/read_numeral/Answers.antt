@@ -1,6 +1,5 @@
 -- After i characters n is what they are worth.
-use Prim.Native.Nat.{◌≤◌, ◌-◌}
-use mathlib.Core.Path.{◌≡◌, ap, ◌∙◌}
+use mathlib.Core.Path.{ap, ◌∙◌}
 use Rattle.script_text.specs.Number.{numeral_of_first, read_numeral}
 use Rattle.script_text.proofs.Laws.Reading.{read_none, read_more}
 use borrow.Author.Rules.{rules}

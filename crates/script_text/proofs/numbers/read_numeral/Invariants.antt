@@ -1,7 +1,7 @@
 use Prim.Native.Nat.{◌≤◌, ◌-◌}
-use mathlib.Core.Path.{◌≡◌, ap, ◌∙◌}
+use mathlib.Core.Path.{◌≡◌}
 use lib.ListN.{length}
-use Rattle.script_text.specs.Number.{numeral_of_first, read_numeral}
+use Rattle.script_text.specs.Number.{numeral_of_first}
 use Rattle.script_text.proofs.numbers.read_numeral.Given as goal
 
 abbrev pub invariant-loop-i : goal.invariant-loop-i

@@ -1,7 +1,5 @@
 -- The text is textual exactly where the rest from i on is.
-use Prim.Native.Nat.{◌≤◌, ◌-◌}
-use mathlib.Core.Path.{◌≡◌, refl, ◌∙◌, sym}
-use Rattle.script_text.specs.Words.{is_text}
+use mathlib.Core.Path.{refl, ◌∙◌, sym}
 use Rattle.script_text.proofs.Laws.Scanning.{is_text_stop, is_text_more, is_text_last}
 use borrow.Author.Rules.{rules}
 use native.Mathlib.Omega.{arith}

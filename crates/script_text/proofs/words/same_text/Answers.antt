@@ -1,7 +1,5 @@
 -- The texts are the same exactly where the rests from i on are.
-use Prim.Native.Nat.{◌≤◌, ◌-◌}
-use mathlib.Core.Path.{◌≡◌, refl}
-use lib.ListN.{length, drop}
+use mathlib.Core.Path.{refl}
 use Rattle.script_text.proofs.Laws.Scanning.{differ_length, same_stop, same_more, same_last}
 use borrow.Author.Rules.{rules}
 use native.Mathlib.Omega.{arith}

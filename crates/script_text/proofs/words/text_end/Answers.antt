@@ -1,6 +1,5 @@
 -- What stands before i is text.
-use Prim.Native.Nat.{◌≤◌, ◌-◌}
-use mathlib.Core.Path.{◌≡◌, refl, ◌∙◌, sym}
+use mathlib.Core.Path.{refl, ◌∙◌, sym}
 use Rattle.script_text.proofs.Laws.Scanning.{text_stop, text_more, text_last}
 use borrow.Author.Rules.{rules}
 use native.Mathlib.Omega.{arith}

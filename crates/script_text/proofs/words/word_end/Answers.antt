@@ -1,7 +1,6 @@
 -- What stands between from and i is of the word.
-use Prim.Native.Nat.{◌-◌}
 use mathlib.Core.Path.{◌∙◌, sym}
-use Rattle.script_text.proofs.Laws.Scanning.{Passed, passed_none, passed_more, ended_blank, ended_last}
+use Rattle.script_text.proofs.Laws.Scanning.{passed_none, passed_more, ended_blank, ended_last}
 use Rattle.script_text.proofs.words.word_end.Goals as goal
 
 pub loop-i-init : goal.loop-i-init

@@ -1,6 +1,6 @@
 use Prim.Native.Nat.{◌-◌}
 use lib.ListN.{length}
-use Rattle.script_text.proofs.Laws.Scanning.{Passed, passed_none, passed_more, ended_blank, ended_last}
+use Rattle.script_text.proofs.Laws.Scanning.{Passed}
 use Rattle.script_text.proofs.words.word_end.Given as goal
 
 abbrev pub invariant-loop-i : goal.invariant-loop-i

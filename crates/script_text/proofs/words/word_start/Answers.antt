@@ -1,7 +1,5 @@
 -- Only blanks were passed.
-use Prim.Native.Nat.{◌≤◌, ◌-◌}
-use mathlib.Core.Path.{◌≡◌, refl, ◌∙◌, sym}
-use Rattle.script_text.specs.Words.{after_blanks}
+use mathlib.Core.Path.{refl, ◌∙◌, sym}
 use Rattle.script_text.proofs.Laws.Scanning.{after_blanks_stop, after_blanks_more, after_blanks_last}
 use native.Mathlib.Omega.{arith}
 use Rattle.script_text.proofs.words.word_start.Goals as goal

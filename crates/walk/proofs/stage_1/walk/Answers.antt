@@ -1,7 +1,5 @@
 -- At each level the walk from here on, with what was fetched before, is the whole walk.
-use Prim.Native.Nat.{◌+◌, ◌*◌, ◌-◌, ◌≤◌, ◌<◌}
-use mathlib.Core.Path.{◌≡◌, ◌∙◌, sym}
-use Rattle.walk.specs.Steps.{most_by_level, answered, from_table_1}
+use mathlib.Core.Path.{◌∙◌, sym}
 use Rattle.walk.proofs.Laws.Walk.{answered_from, was_answered, went_on}
 use native.Mathlib.Omega.{arith}
 use Rattle.walk.proofs.stage_1.walk.Goals as goal

@@ -1,6 +1,6 @@
 -- At each level the walk from here on, with what was fetched before, is the whole walk.
-use Prim.Native.Nat.{◌+◌, ◌-◌, ◌≤◌, ◌<◌}
-use mathlib.Core.Path.{◌≡◌, ◌∙◌, sym}
+use Prim.Native.Nat.{◌+◌}
+use mathlib.Core.Path.{◌∙◌, sym}
 use Rattle.walk.proofs.Laws.Counts.{count_now}
 use Rattle.walk.proofs.Laws.Walk.{after_step_2, from_root, lower, went_down, went_out, went_wrong, was_absent}
 use native.Mathlib.Omega.{arith}
