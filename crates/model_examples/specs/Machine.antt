@@ -31,7 +31,8 @@ pub asked_state : {s : State} (m : Machine) (l : List Ask) → m.state ≡ s →
 unfolding machine_after state_after
 asked_state m [] e = e
 asked_state {s} m (a ∷ rest) e =
-    asked_state {s = after s (answer s (operation s a))} (call m (operation m.state a)) rest (unfold call in settled m (keeps m.caches (operation m.state a))
+    asked_state {s = after s (answer s (operation s a))} (call m (operation m.state a)) rest
+    (unfold call in settled m (keeps m.caches (operation m.state a))
     (answer m.state (operation m.state a)) ∙ ap (λ (u : State). after u (answer u (operation u a))) e)
 
 pub run_then : {m m' z : Machine} → Run m m' → Run m' z → Run m z

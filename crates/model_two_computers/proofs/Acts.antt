@@ -61,8 +61,8 @@ store_two c (one d f f' o b l w w' k) = both _ _ (stored d d f f' o b l w w' k) 
 
 module _ (p : Program) (c : ℕ) where
   -- one act of each, from the same knowledge: they learn the same, and store the same
-  pub act_same : {R : Frames} {y z : Machine} {xs ys xs₁ ys₁ : List News} {y₁ z₁ : Machine} {k k' : Outcome} → xs ≡ ys → Paired c R y z → Bounded y →
-      Bounded z →
+  pub act_same : {R : Frames} {y z : Machine} {xs ys xs₁ ys₁ : List News} {y₁ z₁ : Machine} {k k' : Outcome} → xs ≡ ys →
+      Paired c R y z → Bounded y → Bounded z →
       Acts p c xs y k xs₁ y₁ → Acts p c ys z k' ys₁ z₁ → (k ≡ k') ⊎ SettledOn y z c (p xs) → (xs₁ ≡ ys₁) × Store R y z y₁ z₁
   act_same {R} {y} {z} {xs} {ys} e q by bz (reads w v o f r i l a g) (reads w' v' o' f' r' i' l' a' g') alike =
       let s = read_is i (ap p e ∙ i') in

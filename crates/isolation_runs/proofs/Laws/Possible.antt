@@ -24,7 +24,8 @@ use Rattle.isolation_runs.specs.Slices.{Slices, spaces, Called}
 use Rattle.isolation_runs.proofs.Laws.Calls.{defined_is}
 use Rattle.isolation_runs.proofs.Laws.Steps.{Fit, fit_ready, chosen_so}
 
-pub still_bytes : (m : List ℕ) (at b : ℕ) → at < length m → b < 256 → ((i : ℕ) → get_or m i 0 < 256) → (i : ℕ) → get_or (set m at b) i 0 < 256
+pub still_bytes : (m : List ℕ) (at b : ℕ) → at < length m → b < 256 → ((i : ℕ) → get_or m i 0 < 256) → (i : ℕ) →
+    get_or (set m at b) i 0 < 256
 still_bytes m at b room small h i = elim (eq? i at) [
   | inl e ↦ rw e (rw (get_or-set_same m at b 0 room) small)
   | inr e ↦ rw (get_or-set_other m at i b 0 e) (h i)
@@ -53,7 +54,8 @@ module _ (x : Slices) (h : Fit x) (c : Call) (r : ℕ) (ram ledger : List ℕ) (
       go : (u : Out) → defined c (state_of x.ram x.ledger) (pick_of x.ledger) ≡ u → Outcome u x.ram x.ledger r ram ledger →
           Goes (state_of x.ram x.ledger) (in_model c (pick_of x.ledger)) (state_of ram ledger)
       go (refuse n) e o = subst (λ (t : State). Goes (state_of x.ram x.ledger) (in_model c (pick_of x.ledger)) t)
-          (sym (ap (λ (m : List ℕ). state_of m ledger) o.1 ∙ ap (λ (l : List ℕ). state_of x.ram l) o.2)) (stay (Does (state_of x.ram x.ledger) (in_model c (pick_of x.ledger))))
+          (sym (ap (λ (m : List ℕ). state_of m ledger) o.1 ∙ ap (λ (l : List ℕ). state_of x.ram l) o.2))
+          (stay (Does (state_of x.ram x.ledger) (in_model c (pick_of x.ledger))))
       go (done s) e o = subst (λ (t : State). Goes (state_of x.ram x.ledger) (in_model c (pick_of x.ledger)) t) (sym o.1)
           (then_is (M.answer (state_of x.ram x.ledger) (in_model c (pick_of x.ledger))) s
           (ready_goes (state_of x.ram x.ledger) (fit_ready h) (in_model c (pick_of x.ledger)) (chosen_so x h.sound c))

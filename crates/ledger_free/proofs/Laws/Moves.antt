@@ -84,7 +84,8 @@ module _ (l : List ℕ) (s : LedgerSound l) (f : ℕ) (hf : f < size_of l) where
         (inl (omega arith))
 
     -- whatever else is stored of what it is
-    module _ (l' : List ℕ) (F'' : ℕ → ℕ → ℕ) (g h p : ℕ) (x : Holds (length l) l' F'' new_guests) (e0 : F'' KIND ≡ upd (old_frames KIND) f k)
+    module _ (l' : List ℕ) (F'' : ℕ → ℕ → ℕ) (g h p : ℕ) (x : Holds (length l) l' F'' new_guests)
+        (e0 : F'' KIND ≡ upd (old_frames KIND) f k)
         (e12 : F'' FRAME_AT ≡ swapped (old_frames FRAME_AT) (old_frames PLACE) f q)
         (e13 : F'' PLACE ≡ swapped (old_frames PLACE) (old_frames FRAME_AT) q f) where
       stocked : RowsSound (length l) F'' new_guests

@@ -72,7 +72,8 @@ lent_bytes s o f h w s' e = then_is (answer s (Share o f h w)) s' as_before e
   where
     as_before : Then (λ s'. (i : ℕ) → byte s' f i ≡ byte s f i) (answer s (Share o f h w))
     as_before =
-        unfold answer share becomes byte in checked 5 λ e1. checked 12 λ e2. checked 4 λ e3. checked 9 λ e4. checked 13 λ e5. checked 14 λ e6. then_done (λ i. refl)
+        unfold answer share becomes byte in checked 5 λ e1. checked 12 λ e2. checked 4 λ e3. checked 9 λ e4. checked 13 λ e5.
+        checked 14 λ e6. then_done (λ i. refl)
 
 pub mirror : (g : ℕ) (R : Frames) (s s' : State) {o o' : Operation} → Matches g R s s' o o' → Matches g (flip R) s' s o' o
 mirror g R s s' creates = creates

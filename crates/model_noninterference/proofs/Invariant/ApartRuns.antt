@@ -51,7 +51,8 @@ answered_called g {m} x o ch a =
     let d = done_is (answer m.state o) a in
     rw (call_is m o d.0 d.1) (called g x o ch d.0 d.1)
 
-pub step_apart : {g : ℕ} {R : Frames} {y z : Machine} {R' : Frames} {y' z' : Machine} → Apart g R y z R' y' z' → Seen g R y z → Seen g R' y' z'
+pub step_apart : {g : ℕ} {R : Frames} {y z : Machine} {R' : Frames} {y' z' : Machine} → Apart g R y z R' y' z' → Seen g R y z →
+    Seen g R' y' z'
 step_apart {g} (first_calls {R} {y} {z} o ch w) p =
     let u = called_unseen g p.first o ch w in
     record {

@@ -63,7 +63,8 @@ module _ (g : ℕ) (s : State) where
   mapped_role f a r pick s' e = then_is (answer s (Map f g a r pick)) s' was e
     where
       was : Then (λ s'. role_of s g f ≡ 0 → ⊥) (answer s (Map f g a r pick))
-      was = unfold answer map in checked 5 λ e1. checked 14 λ e2. checked 7 λ e3. checked 8 λ e4. checked 4 λ e5. checked 9 λ e6. checked 10 λ e7. checked 3 λ e8. then_done (may_role s g f r (inl (may_is s g f r e6)))
+      was = unfold answer map in checked 5 λ e1. checked 14 λ e2. checked 7 λ e3. checked 8 λ e4. checked 4 λ e5. checked 9 λ e6.
+          checked 10 λ e7. checked 3 λ e8. then_done (may_role s g f r (inl (may_is s g f r e6)))
 
   lent_role : (o how : ℕ) → 0 < how → role g (page o) how ≡ 0 → ⊥
   lent_role o how l n = go (eqb o g) (rw (le-leb 1 how (omega arith)) at n)

@@ -25,13 +25,15 @@ use Rattle.model_paths.specs.Goes.{Goes, Ended}
 use Rattle.model_paths.proofs.Laws.Reads.{kind_table, kind_page, not_claimed}
 use Rattle.model_paths.proofs.Operations.Frames.{and_false, no_word, above}
 use Rattle.model.specs.Machine.{Create}
-use Rattle.model_moves.specs.Path.{puts, opens, Way}
+use Rattle.model_moves.specs.Path.{Deed, puts, opens, Way}
 
 module _ (s : State.State) (c : Core s) (n : Ended s) where
   create_path : (g t : ℕ) → s.exists g ≡ false → s.dirty g ≡ false → s.kind t ≡ State.free →
       Way (λ d. (d ≡ puts t free) ⊎ (d ≡ opens g)) (view s) (view (with_root s g t))
   unfolding with_root zeros
-  create_path g t no_g clean e = onward (λ d. (d ≡ puts t free) ⊎ (d ≡ opens g)) (clearing (λ d. (d ≡ puts t free) ⊎ (d ≡ opens g)) s t e (inl refl)) (by (λ d. (d ≡ puts t free) ⊎ (d ≡ opens g)) (open_space g new premises) (inr refl) (way_to (λ d. (d ≡ puts t free) ⊎ (d ≡ opens g)) (stay (λ d. (d ≡ puts t free) ⊎ (d ≡ opens g)))
+  create_path g t no_g clean e =
+      let D : Deed → Type 0 = λ d. (d ≡ puts t free) ⊎ (d ≡ opens g) in
+      onward D (clearing D s t e (inl refl)) (by D (open_space g new premises) (inr refl) (way_to D (stay D)
       (same _ (view (with_root s g t)) refl refl kinds (λ f d. refl) waits spaces (λ d j v. refl) (λ f i. refl))))
     where
       new : Space

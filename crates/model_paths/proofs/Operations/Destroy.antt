@@ -21,6 +21,7 @@ use Rattle.model_moves.proofs.Invariant.Ledger.{shares_none}
 use Rattle.model_moves.proofs.Invariant.Entries.{same_frame}
 use Rattle.model_paths.specs.View.{whole_slot, use_of, waits_of, view}
 use Rattle.model_paths.proofs.Laws.View.{same, same_space}
+use Rattle.model_moves.specs.Path.{Deed}
 use Rattle.model_paths.specs.Goes.{Does, Goes, Ended}
 use Rattle.model_paths.proofs.Operations.Frames.{all_of}
 use Rattle.model_paths.proofs.Operations.Unmap.{stale_set}
@@ -77,8 +78,9 @@ module _ (s : State.State) (c : Core s) (n : Ended s) (k : Core.Core (view s)) w
       Goes s (Destroy g) (without_guest s g)
   unfolding without_guest drained
   destroy_path g l u =
-      by (Does s (Destroy g)) (end g (λ j v. eqb j whole_slot) whole_slot l (λ j v a. (and_true (eqb j whole_slot) (s.dirty g) a).0) (λ v. refl)) (inl refl)
-      (by (Does s (Destroy g)) (retire (P g) g (all_of g) (retiring g u)) (inr refl) (way_to (Does s (Destroy g)) (stay (Does s (Destroy g)))
+      let D : Deed → Type 0 = Does s (Destroy g) in
+      by D (end g (λ j v. eqb j whole_slot) whole_slot l (λ j v a. (and_true (eqb j whole_slot) (s.dirty g) a).0) (λ v. refl)) (inl refl)
+      (by D (retire (P g) g (all_of g) (retiring g u)) (inr refl) (way_to D (stay D)
       (same _ (view (without_guest s g)) refl refl (λ f. kinds (s.kind f)) (λ f d. refl) (λ f d j. waits (s.kind f) d j) spaces
       (stale_set s g) (λ f i. refl))))
     where

@@ -18,6 +18,7 @@ use Rattle.model_moves.specs.Moves.{hand, retire, release, Retire}
 use Rattle.model_moves.proofs.Laws.Paths.{stay, by, onward, way_to}
 use Rattle.model_paths.specs.View.{whole_slot, use_of, waits_of, words_of, view}
 use Rattle.model_paths.proofs.Laws.View.{same, clearing}
+use Rattle.model_moves.specs.Path.{Deed}
 use Rattle.model_paths.specs.Goes.{Does, Goes, Ended}
 use Rattle.model_paths.proofs.Laws.Reads.{has_none, none_of}
 use Rattle.model_paths.proofs.Operations.Frames.{waits_set, kind_set, no_word, all_of}
@@ -27,7 +28,9 @@ module _ (s : State.State) (c : Core s) where
   give_path : (f g : ℕ) → s.kind f ≡ State.free →
       Goes s (Give f g) (becomes s f (State.page g) (upd s.word f zeros) (upd s.shared f zeros))
   unfolding becomes zeros
-  give_path f g e = onward (Does s (Give f g)) (clearing (Does s (Give f g)) s f e (inl refl)) (by (Does s (Give f g)) (hand f g (ap use_of e) zero_words) (inr refl) (way_to (Does s (Give f g)) (stay (Does s (Give f g)))
+  give_path f g e =
+      let D : Deed → Type 0 = Does s (Give f g) in
+      onward D (clearing D s f e (inl refl)) (by D (hand f g (ap use_of e) zero_words) (inr refl) (way_to D (stay D)
       (same after (view (becomes s f (State.page g) (upd s.word f zeros) (upd s.shared f zeros))) refl refl kinds
       (λ t d. refl) waits (λ d. refl) (λ d j v. refl) (λ t i. refl))))
     where
@@ -78,15 +81,17 @@ module _ (s : State.State) (c : Core s) (n : Ended s) where
       Goes s (Take f g) (becomes s f (cond b (State.draining_page g) State.free) s.word s.shared)
   unfolding becomes upd
   take_path f g true d k e1 e2 =
-      by (Does s (Take f g)) (retire (λ t. eqb t f) g (all_of g) (retiring f g (all_of g) k e1 e2
-      (λ j v x. rw (eq-eqb g g refl) (and_true (eqb j whole_slot) (s.dirty g) x).0))) (inl refl) (way_to (Does s (Take f g)) (stay (Does s (Take f g)))
+      let D : Deed → Type 0 = Does s (Take f g) in
+      by D (retire (λ t. eqb t f) g (all_of g) (retiring f g (all_of g) k e1 e2
+      (λ j v x. rw (eq-eqb g g refl) (and_true (eqb j whole_slot) (s.dirty g) x).0))) (inl refl) (way_to D (stay D)
       (same _ (view (becomes s f (State.draining_page g) s.word s.shared)) refl refl (kind_set s.kind f (State.draining_page g))
       (λ t d. refl) (waits_set s.kind f (State.draining_page g)) (λ d. refl) (λ d j v. refl) (λ t i. refl)))
   take_path f g false d k e1 e2 =
-      by (Does s (Take f g)) (retire (λ t. eqb t f) g (λ c j. false)
+      let D : Deed → Type 0 = Does s (Take f g) in
+      by D (retire (λ t. eqb t f) g (λ c j. false)
       (retiring f g (λ c j. false) k e1 e2 (λ j v x. absurd (true≢false (sym (and_true (eqb j whole_slot) (s.dirty g) x).1 ∙ d)))))
       (inl refl)
-      (by (Does s (Take f g)) (release (λ t. eqb t f) free_now) (inr refl) (way_to (Does s (Take f g)) (stay (Does s (Take f g)))
+      (by D (release (λ t. eqb t f) free_now) (inr refl) (way_to D (stay D)
       (same _ (view (becomes s f State.free s.word s.shared)) refl refl kinds (λ t d. refl) (waits_set s.kind f State.free)
       (λ d. refl) (λ d j v. refl) (λ t i. refl))))
     where

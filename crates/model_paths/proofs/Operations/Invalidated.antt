@@ -20,7 +20,7 @@ use Rattle.model_paths.specs.Goes.{Does, Goes, Ended}
 use Rattle.model_paths.proofs.Operations.Frames.{and_false}
 use Rattle.model_moves.proofs.Laws.Paths.{stay, by, telling, way_to}
 use Rattle.model.specs.Machine.{Invalidated}
-use Rattle.model_moves.specs.Path.{Way}
+use Rattle.model_moves.specs.Path.{Deed, Way}
 
 abbrev drains_for : State.KindOfFrame → ℕ → Bool
 drains_for State.monitor g = false
@@ -135,19 +135,23 @@ module _ (s : State.State) (c : Core s) (n : Ended s) where
   -- the tables of a guest that is no longer are free too
   clean_rest : (g : ℕ) → Way (Does s (Invalidated g)) (turned (told g) (λ f. drains_for (s.kind f) g) free) (view (clean s g))
   unfolding clean
-  clean_rest g = elim (bool? (s.exists g)) [
-    | inl l ↦ way_to (Does s (Invalidated g)) (stay (Does s (Invalidated g))) (same _ (view (clean s g)) refl refl (λ f. kinds_there g f l) (λ f d. refl)
-        (λ f d j. waits_told g (s.kind f) d j) (λ d. refl) (stale_told g) (λ f i. refl))
-    | inr l ↦ by (Does s (Invalidated g)) (dissolve g l (λ j v. stale_told g g j v
-        ∙ and_false (eqb j whole_slot) (upd s.dirty g false g) (upd_at s.dirty g false g refl))) (inr (inr refl))
-        (way_to (Does s (Invalidated g)) (stay (Does s (Invalidated g))) (same _ (view (clean s g)) refl refl (λ f. kinds_gone g f l) (λ f d. refl) (λ f d j. waits_told g (s.kind f) d j)
-        (λ d. refl) (stale_told g) (λ f i. refl)))
-  ]
+  clean_rest g =
+      let D : Deed → Type 0 = Does s (Invalidated g) in
+      elim (bool? (s.exists g)) [
+        | inl l ↦ way_to D (stay D) (same _ (view (clean s g)) refl refl (λ f. kinds_there g f l) (λ f d. refl)
+            (λ f d j. waits_told g (s.kind f) d j) (λ d. refl) (stale_told g) (λ f i. refl))
+        | inr l ↦ by D (dissolve g l (λ j v. stale_told g g j v
+            ∙ and_false (eqb j whole_slot) (upd s.dirty g false g) (upd_at s.dirty g false g refl))) (inr (inr refl))
+            (way_to D (stay D) (same _ (view (clean s g)) refl refl (λ f. kinds_gone g f l) (λ f d. refl)
+            (λ f d j. waits_told g (s.kind f) d j)
+            (λ d. refl) (stale_told g) (λ f i. refl)))
+      ]
 
   clean_path : (g : ℕ) → Goes s (Invalidated g) (clean s g)
   clean_path g =
-      telling (Does s (Invalidated g)) g (λ v. true) (λ j. eqb j whole_slot) (record { covered = λ j v a b. refl }) (inl refl)
-      (by (Does s (Invalidated g)) (release (λ f. drains_for (s.kind f) g) (freed g)) (inr (inl (λ f. drains_for (s.kind f) g, refl))) (clean_rest g))
+      let D : Deed → Type 0 = Does s (Invalidated g) in
+      telling D g (λ v. true) (λ j. eqb j whole_slot) (record { covered = λ j v a b. refl }) (inl refl)
+      (by D (release (λ f. drains_for (s.kind f) g) (freed g)) (inr (inl (λ f. drains_for (s.kind f) g, refl))) (clean_rest g))
 
   pub invalidated_goes : (g : ℕ) → Then (Goes s (Invalidated g)) (invalidated s g)
   unfolding invalidated

@@ -63,13 +63,15 @@ module _ (s : State.State) (c : Invariant.Core s) (t t' g h q : ℕ) (live : s.e
 
   table_path : Way (Builds g) (view s) (view (with_table s t (q % 512) t' g h q))
   unfolding with_table zeros
-  table_path = onward (Builds g) (clearing (Builds g) s t' hf (inl (t', refl)))
-      (by (Builds g) (claim t' g h q (record {
+  table_path =
+      let D : Deed → Type 0 = Builds g in
+      onward D (clearing D s t' hf (inl (t', refl)))
+      (by D (claim t' g h q (record {
         was = ap use_of hf;
         leaf = λ v y r e d. absurd (no_output (nothing (upper h v % 512)) d);
         no_table = λ i y d. no_next (nothing (i % 512)) d;
       })) (inr (h, q, inl refl))
-      (by (Builds g) (link t t' g h q (table_entry s.first t') (record {
+      (by D (link t t' g h q (table_entry s.first t') (record {
         live = live;
         place = upd_other (λ f. use_of (s.kind f)) t' (claimed g h q) t apart ∙ ap use_of ht;
         empty = still;
@@ -77,7 +79,7 @@ module _ (s : State.State) (c : Invariant.Core s) (t t' g h q : ℕ) (live : s.e
         fresh = λ j v y r e d. and_false (eqb j whole_slot) (s.dirty g) clean;
         whole = λ j a. let v = some_page (suc h) q in true≢false (sym (a v.0 v.1) ∙ and_false (eqb j whole_slot) (s.dirty g) clean);
         reads = descriptor_table s.first t' (Core.in_room s c t' State.free hf refl) h;
-      })) (inr (h, q, inr refl)) (way_to (Builds g) (stay (Builds g)) (same _ (view (with_table s t (q % 512) t' g h q)) refl refl kinds (λ f d. refl) waits
+      })) (inr (h, q, inr refl)) (way_to D (stay D) (same _ (view (with_table s t (q % 512) t' g h q)) refl refl kinds (λ f d. refl) waits
       (λ d. refl)
       (λ d j v. refl) (words_store (upd s.word t' (λ i. 0)) t (q % 512) (table_entry s.first t') (omega arith))))))
     where

@@ -22,7 +22,7 @@ use Rattle.model_paths.proofs.Laws.Reads.{has_none}
 use Rattle.model_paths.proofs.Operations.Frames.{and_false}
 use Rattle.model_moves.proofs.Laws.Paths.{stay, by, way_to}
 use Rattle.model.specs.Machine.{Share, Unshare}
-use Rattle.model_moves.specs.Path.{lends, Way}
+use Rattle.model_moves.specs.Path.{Deed, lends, Way}
 
 -- shared for no less
 pub more_shares : (a b r : ℕ) → a ≤ b → shares a r ≡ true → shares b r ≡ true
@@ -56,7 +56,9 @@ module _ (s : State.State) (c : Core s) (n : Ended s) where
   lend_path : (g f h how : ℕ) → s.kind f ≡ State.page g → Lend (view s) f h how →
       Way (λ d. d ≡ lends f h how) (view s) (view (becomes s f (State.page g) s.word (upd2 s.shared f h how)))
   unfolding becomes
-  lend_path g f h how k m = by (λ d. d ≡ lends f h how) (lend f h how m) refl (way_to (λ d. d ≡ lends f h how) (stay (λ d. d ≡ lends f h how))
+  lend_path g f h how k m =
+      let D : Deed → Type 0 = λ d. d ≡ lends f h how in
+      by D (lend f h how m) refl (way_to D (stay D)
       (same _ (view (becomes s f (State.page g) s.word (upd2 s.shared f h how))) refl refl (λ t. ap use_of (again t)) (λ t d. refl)
       (λ t d j. ap (λ x. waits_of x d j) (again t)) (λ d. refl) (λ d j v. refl) (λ t i. refl)))
     where

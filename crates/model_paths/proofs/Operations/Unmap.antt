@@ -27,7 +27,7 @@ use Rattle.model_paths.specs.Goes.{Goes}
 use Rattle.model_paths.proofs.Operations.Frames.{and_yes}
 use Rattle.model_moves.proofs.Laws.Paths.{stay, by, way_to}
 use Rattle.model.specs.Machine.{Unmap}
-use Rattle.model_moves.specs.Path.{clears, Way}
+use Rattle.model_moves.specs.Path.{Deed, clears, Way}
 
 -- the guest becomes dirty: everything is stale, and that includes the page
 pub stale_set : (s : State.State) (g d j v : ℕ) →
@@ -43,16 +43,18 @@ module _ (s : State.State) (c : Core s) where
   unmap_path : (g v t f r : ℕ) → s.exists g ≡ true → s.kind t ≡ State.table g 0 (v / 512) → entry_at s t (v % 512) ≡ to_page f r →
       Way (λ d. d ≡ clears g 0 v) (view s) (view (without_page s t (v % 512) f g))
   unfolding without_page upper
-  unmap_path g v t f r l k e = by (λ d. d ≡ clears g 0 v) (clear t g 0 v 0 (s.first + f) r (λ j v. eqb j whole_slot) whole_slot (record {
-    live = l;
-    place = ap use_of k;
-    leaf =
-        ap (descriptor 0) (words_low s.word t (v % 512) (omega arith) ∙ is_to_page s.first (s.word t (v % 512)) f r e)
-        ∙ descriptor_page s.first f r (may_room s c g f r may) (page_low s.first (s.word t (v % 512)) f r e);
-    reads = descriptor_empty 0;
-    grows = λ j u a. (and_true (eqb j whole_slot) (s.dirty g) a).0;
-    marks = λ u a. refl;
-  })) refl (way_to (λ d. d ≡ clears g 0 v) (stay (λ d. d ≡ clears g 0 v)) (same (with_stale (store (view s) t (v % 512) 0) (upd (view s).stale g (λ j v. eqb j whole_slot)))
+  unmap_path g v t f r l k e =
+      let D : Deed → Type 0 = λ d. d ≡ clears g 0 v in
+      by D (clear t g 0 v 0 (s.first + f) r (λ j v. eqb j whole_slot) whole_slot (record {
+        live = l;
+        place = ap use_of k;
+        leaf =
+            ap (descriptor 0) (words_low s.word t (v % 512) (omega arith) ∙ is_to_page s.first (s.word t (v % 512)) f r e)
+            ∙ descriptor_page s.first f r (may_room s c g f r may) (page_low s.first (s.word t (v % 512)) f r e);
+        reads = descriptor_empty 0;
+        grows = λ j u a. (and_true (eqb j whole_slot) (s.dirty g) a).0;
+        marks = λ u a. refl;
+      })) refl (way_to D (stay D) (same (with_stale (store (view s) t (v % 512) 0) (upd (view s).stale g (λ j v. eqb j whole_slot)))
       (view (without_page s t (v % 512) f g)) refl refl (λ f. refl) (λ f d. refl) (λ f d j. refl) (λ d. refl) (stale_set s g)
       (words_store s.word t (v % 512) 0 (omega arith))))
     where

@@ -20,14 +20,19 @@ exists-requires c = c.requires.ledger_sound
 
 pub returns-then-exists : goal.returns-then-exists
 unfolding create state_in
-returns-then-exists c = (goes_on _ 1 _ ((sym c.is_guest.ensures ∙ c.if-not-is_guest.false))) (stops _ 2 _ (and_left _ _ (ap not (sym c.exists.ensures ∙ c.if-exists.true))))
+returns-then-exists c = (goes_on _ 1 _ ((sym c.is_guest.ensures ∙ c.if-not-is_guest.false)))
+    (stops _ 2 _ (and_left _ _ (ap not (sym c.exists.ensures ∙ c.if-exists.true))))
 
 pub dirty-requires : goal.dirty-requires
-dirty-requires c = record { ledger_sound = c.requires.ledger_sound; g_bound = (guest_low c.args.g ((sym c.is_guest.ensures ∙ c.if-not-is_guest.false))).1 }
+dirty-requires c = record {
+  ledger_sound = c.requires.ledger_sound;
+  g_bound = (guest_low c.args.g ((sym c.is_guest.ensures ∙ c.if-not-is_guest.false))).1;
+}
 
 pub returns-then-dirty : goal.returns-then-dirty
 unfolding create state_in
-returns-then-dirty c = (goes_on _ 1 _ ((sym c.is_guest.ensures ∙ c.if-not-is_guest.false))) (stops _ 2 _ (and_right (not (exists_of c.args.ledger.now c.args.g))
+returns-then-dirty c = (goes_on _ 1 _ ((sym c.is_guest.ensures ∙ c.if-not-is_guest.false)))
+    (stops _ 2 _ (and_right (not (exists_of c.args.ledger.now c.args.g))
     (not (dirty_of c.args.ledger.now c.args.g)) (ap not (sym c.dirty.ensures ∙ c.if-dirty.true))))
 
 pub free-requires : goal.free-requires
@@ -35,10 +40,14 @@ free-requires c = c.requires.ledger_sound
 
 pub returns-then-free-eq0 : goal.returns-then-free-eq0
 unfolding create state_in
-returns-then-free-eq0 c = (goes_on _ 1 _ ((sym c.is_guest.ensures ∙ c.if-not-is_guest.false))) ((goes_on _ 2 _ (and_both _ _ (ap not (sym c.exists.ensures ∙ c.if-exists.false)) (ap not (sym c.dirty.ensures ∙ c.if-dirty.false)))) (stops _ 3 _ (lt-leb 1 (free_frames (state_of c.args.ram.now c.args.ledger.now))
+returns-then-free-eq0 c = (goes_on _ 1 _ ((sym c.is_guest.ensures ∙ c.if-not-is_guest.false)))
+    ((goes_on _ 2 _ (and_both _ _ (ap not (sym c.exists.ensures ∙ c.if-exists.false)) (ap not (sym c.dirty.ensures
+    ∙ c.if-dirty.false)))) (stops _ 3 _ (lt-leb 1 (free_frames (state_of c.args.ram.now c.args.ledger.now))
     (omega (arith, free_is c.args.ledger.now c.requires.ledger_sound c.args.ram.now, c.free.ensures.0, c.if-free-eq0.true)))))
 
 pub returns : goal.returns
 unfolding create state_in
-returns c = (goes_on _ 1 _ ((sym c.is_guest.ensures ∙ c.if-not-is_guest.false))) ((goes_on _ 2 _ (and_both _ _ (ap not (sym c.exists.ensures ∙ c.if-exists.false)) (ap not (sym c.dirty.ensures ∙ c.if-dirty.false)))) (goes_on _ 3 _ (le-leb 1 (free_frames (state_of c.args.ram.now c.args.ledger.now))
+returns c = (goes_on _ 1 _ ((sym c.is_guest.ensures ∙ c.if-not-is_guest.false)))
+    ((goes_on _ 2 _ (and_both _ _ (ap not (sym c.exists.ensures ∙ c.if-exists.false)) (ap not (sym c.dirty.ensures
+    ∙ c.if-dirty.false)))) (goes_on _ 3 _ (le-leb 1 (free_frames (state_of c.args.ram.now c.args.ledger.now))
     (omega (arith, free_is c.args.ledger.now c.requires.ledger_sound c.args.ram.now, c.free.ensures.0, c.if-free-eq0.false))) refl))

@@ -17,18 +17,22 @@ pub share-requires : goal.share-requires
 share-requires c = record { ledger_sound = c.requires.sound.ledger_sound; f_bound = c.requires.f_bound; g_value = c.requires.g_value }
 
 pub returns-then-share-ne-NOTHING : goal.returns-then-share-ne-NOTHING
-returns-then-share-ne-NOTHING c = sym (with_it _ _ _ _ ((sym c.is_page.ensures ∙ c.if-not-is_page.false)) (ne_eqb (shared_of c.args.ledger.now c.args.f c.args.g) 0
+returns-then-share-ne-NOTHING c = sym (with_it _ _ _ _ ((sym c.is_page.ensures ∙ c.if-not-is_page.false))
+    (ne_eqb (shared_of c.args.ledger.now c.args.f c.args.g) 0
     (λ e. c.if-share-ne-NOTHING.true (c.share.ensures ∙ e))))
 
 pub is_page_of-requires : goal.is_page_of-requires
 is_page_of-requires c = record { ledger_sound = c.requires.sound.ledger_sound; f_bound = c.requires.f_bound }
 
 pub returns-then-not-is_page_of : goal.returns-then-not-is_page_of
-returns-then-not-is_page_of c = sym (of_another _ _ _ _ ((sym c.is_page.ensures ∙ c.if-not-is_page.false)) ((eq-eqb (shared_of c.args.ledger.now c.args.f c.args.g) 0 (sym c.share.ensures ∙ c.if-share-ne-NOTHING.false))) (sym c.is_page_of.ensures ∙ c.if-not-is_page_of.true))
+returns-then-not-is_page_of c = sym (of_another _ _ _ _ ((sym c.is_page.ensures ∙ c.if-not-is_page.false))
+    ((eq-eqb (shared_of c.args.ledger.now c.args.f c.args.g) 0 (sym c.share.ensures ∙ c.if-share-ne-NOTHING.false)))
+    (sym c.is_page_of.ensures ∙ c.if-not-is_page_of.true))
 
 pub uses-requires : goal.uses-requires
 uses-requires c = record { ledger_sound = c.requires.sound.ledger_sound; f_bound = c.requires.f_bound }
 
 pub returns : goal.returns
 returns c = ap (λ (x : ℕ). eqb x 0) c.uses.ensures.1 ∙ sym
-    (of_it _ _ _ _ ((sym c.is_page.ensures ∙ c.if-not-is_page.false)) ((eq-eqb (shared_of c.args.ledger.now c.args.f c.args.g) 0 (sym c.share.ensures ∙ c.if-share-ne-NOTHING.false))) (sym c.is_page_of.ensures ∙ c.if-not-is_page_of.false))
+    (of_it _ _ _ _ ((sym c.is_page.ensures ∙ c.if-not-is_page.false)) ((eq-eqb (shared_of c.args.ledger.now c.args.f c.args.g) 0
+    (sym c.share.ensures ∙ c.if-share-ne-NOTHING.false))) (sym c.is_page_of.ensures ∙ c.if-not-is_page_of.false))

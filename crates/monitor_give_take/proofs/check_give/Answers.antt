@@ -19,7 +19,8 @@ size-requires c = c.requires.ledger_sound
 
 pub returns-then-size-f : goal.returns-then-size-f
 unfolding give state_in
-returns-then-size-f c = (goes_on _ 5 _ (sym c.exists.ensures ∙ c.if-not-exists.false)) (stops _ 4 _ (le-ltb c.args.f (size_of c.args.ledger.now)
+returns-then-size-f c = (goes_on _ 5 _ (sym c.exists.ensures ∙ c.if-not-exists.false))
+    (stops _ 4 _ (le-ltb c.args.f (size_of c.args.ledger.now)
     (omega (arith, c.size.ensures.0, c.if-size-f.true))))
 
 pub is_free-requires : goal.is_free-requires
@@ -27,8 +28,11 @@ is_free-requires c = record { ledger_sound = c.requires.ledger_sound; f_bound = 
 
 pub returns-then-not-is_free : goal.returns-then-not-is_free
 unfolding give state_in
-returns-then-not-is_free c = (goes_on _ 5 _ (sym c.exists.ensures ∙ c.if-not-exists.false)) ((goes_on _ 4 _ (lt-ltb c.args.f (size_of c.args.ledger.now) ((omega (arith, c.size.ensures.0, c.if-size-f.false))))) (stops _ 6 _ (sym c.is_free.ensures ∙ c.if-not-is_free.true)))
+returns-then-not-is_free c = (goes_on _ 5 _ (sym c.exists.ensures ∙ c.if-not-exists.false))
+    ((goes_on _ 4 _ (lt-ltb c.args.f (size_of c.args.ledger.now) ((omega (arith, c.size.ensures.0, c.if-size-f.false)))))
+    (stops _ 6 _ (sym c.is_free.ensures ∙ c.if-not-is_free.true)))
 
 pub returns : goal.returns
 unfolding give state_in
-returns c = (goes_on _ 5 _ (sym c.exists.ensures ∙ c.if-not-exists.false)) ((goes_on _ 4 _ (lt-ltb c.args.f (size_of c.args.ledger.now) ((omega (arith, c.size.ensures.0, c.if-size-f.false))))) (goes_on _ 6 _ (sym c.is_free.ensures ∙ c.if-not-is_free.false) refl))
+returns c = (goes_on _ 5 _ (sym c.exists.ensures ∙ c.if-not-exists.false)) ((goes_on _ 4 _ (lt-ltb c.args.f (size_of c.args.ledger.now)
+    ((omega (arith, c.size.ensures.0, c.if-size-f.false))))) (goes_on _ 6 _ (sym c.is_free.ensures ∙ c.if-not-is_free.false) refl))

@@ -38,5 +38,10 @@ pub shape_of-ledger : goal.shape_of-ledger
 shape_of-ledger c = omega (arith, c.loop-f.invariant.2)
 
 pub returns : goal.returns
-returns c = let all : c.loop-f.f ≡ size_of c.args.ledger.now = omega (arith, c.size-n.ensures.0, c.loop-f.invariant.0, c.loop-f-test.false) in
+returns c = let all : c.loop-f.f ≡ size_of c.args.ledger.now = omega (
+  arith,
+  c.size-n.ensures.0,
+  c.loop-f.invariant.0,
+  c.loop-f-test.false,
+) in
     rw all at c.loop-f.invariant.1

@@ -19,13 +19,20 @@ do_map-requires c = record {
 
 pub returns-in-Refused : goal.returns-in-Refused
 returns-in-Refused c = record {
-  answers = plan_refused c.requires (subst (λ (p : MapPlan). IsMapPlan (state_of c.args.ram.now c.args.ledger.now) c.args.f c.args.g c.args.a c.args.r
+  answers = plan_refused c.requires (subst (λ (p : MapPlan). IsMapPlan (state_of c.args.ram.now c.args.ledger.now) c.args.f c.args.g
+      c.args.a c.args.r
       (pick_of c.args.ledger.now) p) c.in-Refused.is c.plan_map-plan.ensures);
-  translates = λ z. absurd (map_nonzero _ _ _ _ _ _ _ (subst (λ (p : MapPlan). IsMapPlan (state_of c.args.ram.now c.args.ledger.now) c.args.f c.args.g c.args.a c.args.r
+  translates = λ z. absurd (map_nonzero _ _ _ _ _ _ _
+      (subst (λ (p : MapPlan). IsMapPlan (state_of c.args.ram.now c.args.ledger.now) c.args.f c.args.g c.args.a c.args.r
       (pick_of c.args.ledger.now) p) c.in-Refused.is c.plan_map-plan.ensures) z);
-  finds = λ z. absurd (map_nonzero _ _ _ _ _ _ _ (subst (λ (p : MapPlan). IsMapPlan (state_of c.args.ram.now c.args.ledger.now) c.args.f c.args.g c.args.a c.args.r
+  finds = λ z. absurd (map_nonzero _ _ _ _ _ _ _
+      (subst (λ (p : MapPlan). IsMapPlan (state_of c.args.ram.now c.args.ledger.now) c.args.f c.args.g c.args.a c.args.r
       (pick_of c.args.ledger.now) p) c.in-Refused.is c.plan_map-plan.ensures) z);
 }
 
 pub returns-in-Grow : goal.returns-in-Grow
-returns-in-Grow c = record { answers = answered c.do_map.ensures; translates = λ _. map_effect c.requires c.args.f c.args.g c.args.a c.args.r c.do_map.ensures; finds = λ _. map_found c.requires c.args.f c.args.g c.args.a c.args.r c.do_map.ensures }
+returns-in-Grow c = record {
+  answers = answered c.do_map.ensures;
+  translates = λ _. map_effect c.requires c.args.f c.args.g c.args.a c.args.r c.do_map.ensures;
+  finds = λ _. map_found c.requires c.args.f c.args.g c.args.a c.args.r c.do_map.ensures;
+}

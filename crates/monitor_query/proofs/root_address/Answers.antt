@@ -16,10 +16,20 @@ root-root-requires c = record {
 }
 
 pub overflow_add-result : goal.overflow_add-result
-overflow_add-result c = omega (arith, (root_room c.args.ram.now c.args.ledger.now c.requires.sound c.args.g c.requires.g_value), c.first-first.ensures, c.root-root.ensures)
+overflow_add-result c = omega (
+  arith,
+  (root_room c.args.ram.now c.args.ledger.now c.requires.sound c.args.g c.requires.g_value),
+  c.first-first.ensures,
+  c.root-root.ensures,
+)
 
 pub overflow_mul-result : goal.overflow_mul-result
-overflow_mul-result c = omega (arith, (root_room c.args.ram.now c.args.ledger.now c.requires.sound c.args.g c.requires.g_value), c.first-first.ensures, c.root-root.ensures)
+overflow_mul-result c = omega (
+  arith,
+  (root_room c.args.ram.now c.args.ledger.now c.requires.sound c.args.g c.requires.g_value),
+  c.first-first.ensures,
+  c.root-root.ensures,
+)
 
 pub returns : goal.returns
 returns c = omega (arith, c.first-first.ensures, c.root-root.ensures)

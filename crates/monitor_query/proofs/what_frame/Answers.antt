@@ -23,7 +23,8 @@ owner-g-requires c = record { ledger_sound = c.requires.ledger_sound; f_bound = 
 
 pub returns-then-k-eq-MONITOR : goal.returns-then-k-eq-MONITOR
 unfolding by_number
-returns-then-k-eq-MONITOR c = frame_here _ _ _ _ _ Monitor ((omega (arith, c.size.ensures.0, c.if-size-f.false))) c.kind-k.ensures c.owner-g.ensures
+returns-then-k-eq-MONITOR c = frame_here _ _ _ _ _ Monitor ((omega (arith, c.size.ensures.0, c.if-size-f.false))) c.kind-k.ensures
+    c.owner-g.ensures
     (simp (
       lt-ltb _ _ c.if-size-f.false,
       lt-leb _ _ c.if-size-f.false,
@@ -32,7 +33,8 @@ returns-then-k-eq-MONITOR c = frame_here _ _ _ _ _ Monitor ((omega (arith, c.siz
 
 pub returns-then-k-eq-FREE : goal.returns-then-k-eq-FREE
 unfolding by_number
-returns-then-k-eq-FREE c = frame_here _ _ _ _ _ Free ((omega (arith, c.size.ensures.0, c.if-size-f.false))) c.kind-k.ensures c.owner-g.ensures
+returns-then-k-eq-FREE c = frame_here _ _ _ _ _ Free ((omega (arith, c.size.ensures.0, c.if-size-f.false))) c.kind-k.ensures
+    c.owner-g.ensures
     (simp (
       lt-ltb _ _ c.if-size-f.false,
       lt-leb _ _ c.if-size-f.false,
@@ -42,7 +44,8 @@ returns-then-k-eq-FREE c = frame_here _ _ _ _ _ Free ((omega (arith, c.size.ensu
 
 pub returns-then-k-eq-TABLE : goal.returns-then-k-eq-TABLE
 unfolding by_number
-returns-then-k-eq-TABLE c = frame_here _ _ _ _ _ (Table c.owner-g.result) ((omega (arith, c.size.ensures.0, c.if-size-f.false))) c.kind-k.ensures c.owner-g.ensures
+returns-then-k-eq-TABLE c = frame_here _ _ _ _ _ (Table c.owner-g.result) ((omega (arith, c.size.ensures.0, c.if-size-f.false)))
+    c.kind-k.ensures c.owner-g.ensures
     (simp (
       lt-ltb _ _ c.if-size-f.false,
       lt-leb _ _ c.if-size-f.false,
@@ -56,7 +59,8 @@ uses-mapped-requires c = record { ledger_sound = c.requires.ledger_sound; f_boun
 
 pub returns-then-k-eq-PAGE : goal.returns-then-k-eq-PAGE
 unfolding by_number
-returns-then-k-eq-PAGE c = frame_here _ _ _ _ _ (Page c.owner-g.result c.uses-mapped.result.places) ((omega (arith, c.size.ensures.0, c.if-size-f.false))) c.kind-k.ensures
+returns-then-k-eq-PAGE c = frame_here _ _ _ _ _ (Page c.owner-g.result c.uses-mapped.result.places)
+    ((omega (arith, c.size.ensures.0, c.if-size-f.false))) c.kind-k.ensures
     c.owner-g.ensures (simp (
       lt-ltb _ _ c.if-size-f.false,
       lt-leb _ _ c.if-size-f.false,
@@ -69,7 +73,8 @@ returns-then-k-eq-PAGE c = frame_here _ _ _ _ _ (Page c.owner-g.result c.uses-ma
 
 pub returns : goal.returns
 unfolding by_number
-returns c = frame_here _ _ _ _ _ (Draining c.owner-g.result) ((omega (arith, c.size.ensures.0, c.if-size-f.false))) c.kind-k.ensures c.owner-g.ensures
+returns c = frame_here _ _ _ _ _ (Draining c.owner-g.result) ((omega (arith, c.size.ensures.0, c.if-size-f.false))) c.kind-k.ensures
+    c.owner-g.ensures
     (simp (
       lt-ltb _ _ c.if-size-f.false,
       lt-leb _ _ c.if-size-f.false,

@@ -10,7 +10,10 @@ unfolding guest_told state_in
 returns-then-not-is_guest c = rw (sym c.is_guest.ensures ∙ c.if-not-is_guest.true)
 
 pub dirty-dirty-requires : goal.dirty-dirty-requires
-dirty-dirty-requires c = record { ledger_sound = c.requires.ledger_sound; g_bound = (guest_low c.args.g ((sym c.is_guest.ensures ∙ c.if-not-is_guest.false))).1 }
+dirty-dirty-requires c = record {
+  ledger_sound = c.requires.ledger_sound;
+  g_bound = (guest_low c.args.g ((sym c.is_guest.ensures ∙ c.if-not-is_guest.false))).1;
+}
 
 pub exists-requires : goal.exists-requires
 exists-requires c = c.requires.ledger_sound

@@ -11,10 +11,28 @@ pub plan_unmap-plan-requires : goal.plan_unmap-plan-requires
 plan_unmap-plan-requires c = c.requires
 
 pub do_unmap-requires : goal.do_unmap-requires
-do_unmap-requires c = record { sound = c.requires; slotted = subst (λ (p : UnmapPlan). IsUnmapPlan (state_of c.args.ram.now c.args.ledger.now) c.args.a c.args.g p) c.in-Clear.is c.plan_unmap-plan.ensures }
+do_unmap-requires c = record {
+  sound = c.requires;
+  slotted = subst (λ (p : UnmapPlan). IsUnmapPlan
+      (state_of c.args.ram.now c.args.ledger.now) c.args.a c.args.g p) c.in-Clear.is c.plan_unmap-plan.ensures;
+}
 
 pub returns-in-Refused : goal.returns-in-Refused
-returns-in-Refused c = record { answers = plan_refused c.requires (subst (λ (p : UnmapPlan). IsUnmapPlan (state_of c.args.ram.now c.args.ledger.now) c.args.a c.args.g p) c.in-Refused.is c.plan_unmap-plan.ensures); translates = λ z. absurd (unmap_nonzero _ _ _ _ (subst (λ (p : UnmapPlan). IsUnmapPlan (state_of c.args.ram.now c.args.ledger.now) c.args.a c.args.g p) c.in-Refused.is c.plan_unmap-plan.ensures) z); finds = λ z. absurd (unmap_nonzero _ _ _ _ (subst (λ (p : UnmapPlan). IsUnmapPlan (state_of c.args.ram.now c.args.ledger.now) c.args.a c.args.g p) c.in-Refused.is c.plan_unmap-plan.ensures) z) }
+returns-in-Refused c = record {
+  answers = plan_refused c.requires
+      (subst (λ (p : UnmapPlan). IsUnmapPlan (state_of c.args.ram.now c.args.ledger.now) c.args.a c.args.g p) c.in-Refused.is
+      c.plan_unmap-plan.ensures);
+  translates = λ z. absurd (unmap_nonzero _ _ _ _
+      (subst (λ (p : UnmapPlan). IsUnmapPlan (state_of c.args.ram.now c.args.ledger.now) c.args.a c.args.g p) c.in-Refused.is
+      c.plan_unmap-plan.ensures) z);
+  finds = λ z. absurd (unmap_nonzero _ _ _ _
+      (subst (λ (p : UnmapPlan). IsUnmapPlan (state_of c.args.ram.now c.args.ledger.now) c.args.a c.args.g p) c.in-Refused.is
+      c.plan_unmap-plan.ensures) z);
+}
 
 pub returns-in-Clear : goal.returns-in-Clear
-returns-in-Clear c = record { answers = answered c.do_unmap.ensures; translates = λ _. unmap_effect c.requires c.args.a c.args.g c.do_unmap.ensures; finds = λ _. unmap_found c.requires c.args.a c.args.g c.do_unmap.ensures }
+returns-in-Clear c = record {
+  answers = answered c.do_unmap.ensures;
+  translates = λ _. unmap_effect c.requires c.args.a c.args.g c.do_unmap.ensures;
+  finds = λ _. unmap_found c.requires c.args.a c.args.g c.do_unmap.ensures;
+}

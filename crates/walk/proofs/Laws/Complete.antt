@@ -70,7 +70,8 @@ module _ (m : List ℕ) (b root2 access el va : ℕ) where
         → length (onward r (λ a. read_on (read_at m b a) (λ d. meaning (rules_of_walks m b root2 access el) va level d ws))) ≡ n + 1
         → length
         (by_result r (λ kind level2. during kind level2 level)
-        (λ a. fetched_at a (read_at m b a) (ends (fault WalkAbort 1 level)) (λ d. meaning (rules_1 m b root2 access el) va level d fs))).fetched
+        (λ a. fetched_at a (read_at m b a) (ends (fault WalkAbort 1 level))
+        (λ d. meaning (rules_1 m b root2 access el) va level d fs))).fetched
         ≡ 5 * n + 5
     by_way (reached a) each len = by_read a (read_at m b a) each len
     by_way (failed kind level2) each len = absurd (omega arith)

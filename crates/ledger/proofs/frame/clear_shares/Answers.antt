@@ -10,7 +10,12 @@ pub loop-g-init : goal.loop-g-init
 loop-g-init c = (omega arith, unshared_none _ c.requires.ledger_sound _ c.requires.f_bound, refl)
 
 pub set_share-requires : goal.set_share-requires
-set_share-requires c = record { ledger_sound = c.loop-g.invariant.1.ledger_sound; f_bound = unshared_low c.args.ledger.now c.requires.ledger_sound c.args.f c.requires.f_bound _ _ c.loop-g.invariant.1; g_value = guest_is (c.loop-g.g + 1) (λ e. omega arith) (omega arith); how_bound = omega arith }
+set_share-requires c = record {
+  ledger_sound = c.loop-g.invariant.1.ledger_sound;
+  f_bound = unshared_low c.args.ledger.now c.requires.ledger_sound c.args.f c.requires.f_bound _ _ c.loop-g.invariant.1;
+  g_value = guest_is (c.loop-g.g + 1) (λ e. omega arith) (omega arith);
+  how_bound = omega arith;
+}
 
 pub loop-g-smaller : goal.loop-g-smaller
 loop-g-smaller c = omega arith

@@ -6,10 +6,21 @@ use native.Mathlib.Omega.{arith}
 use Rattle.ledger.proofs.frame.uses.Goals as goal
 
 pub loop-g-init : goal.loop-g-init
-loop-g-init c = (omega arith, none_yet (count_of c.args.ledger.now c.args.f), none_yet (shared_of c.args.ledger.now c.args.f), omega arith, omega arith)
+loop-g-init c = (
+  omega arith,
+  none_yet (count_of c.args.ledger.now c.args.f),
+  none_yet (shared_of c.args.ledger.now c.args.f),
+  omega arith,
+  omega arith,
+)
 
 pub cell-x-requires : goal.cell-x-requires
-cell-x-requires c = record { ledger_sound = c.requires.ledger_sound; f_bound = c.requires.f_bound; g_value = guest_is (c.loop-g.g + 1) (λ e. omega arith) (omega arith) }
+cell-x-requires c = record {
+  ledger_sound = c.requires.ledger_sound;
+  f_bound = c.requires.f_bound;
+  g_value = guest_is (c.loop-g.g + 1)
+      (λ e. omega arith) (omega arith);
+}
 
 pub overflow_add-places : goal.overflow_add-places
 overflow_add-places c = omega (arith, c.loop-g.invariant.3)

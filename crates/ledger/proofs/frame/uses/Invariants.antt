@@ -7,7 +7,8 @@ use Rattle.ledger.proofs.Laws.Fields.{so_far}
 use Rattle.ledger.proofs.frame.uses.Given as goal
 
 abbrev pub invariant-loop-g : goal.invariant-loop-g
-invariant-loop-g l = (l.g ≤ guests) × (l.places ≡ so_far (count_of l.ledger l.f) l.g) × (l.shares ≡ so_far (shared_of l.ledger l.f) l.g) × (l.places ≤ SHARE_UNIT * l.g) ×
+invariant-loop-g l = (l.g ≤ guests) × (l.places ≡ so_far (count_of l.ledger l.f) l.g) ×
+    (l.shares ≡ so_far (shared_of l.ledger l.f) l.g) × (l.places ≤ SHARE_UNIT * l.g) ×
     (l.shares ≤ 4 * l.g)
 
 abbrev pub decreases-loop-g : goal.decreases-loop-g

@@ -24,5 +24,10 @@ pub shape_of-ledger : goal.shape_of-ledger
 shape_of-ledger c = omega (arith, c.loop-i.invariant.2)
 
 pub returns : goal.returns
-returns c = let all : c.loop-i.i ≡ length c.args.ledger.now = omega (arith, c.loop-i.invariant.0, c.loop-i.invariant.2, c.loop-i-test.false) in
+returns c = let all : c.loop-i.i ≡ length c.args.ledger.now = omega (
+  arith,
+  c.loop-i.invariant.0,
+  c.loop-i.invariant.2,
+  c.loop-i-test.false,
+) in
     c.loop-i.invariant.1 ∙ ap (λ (x : ℕ). cleared_at c.args.ledger.now 0 x) all

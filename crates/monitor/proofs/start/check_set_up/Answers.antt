@@ -7,7 +7,8 @@ pub slices_fit-requires : goal.slices_fit-requires
 slices_fit-requires c = few_enough _ _ ((sym c.ram_fits.ensures ∙ c.if-ram_fits.true))
 
 pub returns-then-slices_fit : goal.returns-then-slices_fit
-returns-then-slices_fit c = fits_all _ _ _ _ _ (sym c.slices_fit.ensures ∙ c.if-slices_fit.true) ((sym c.ram_fits.ensures ∙ c.if-ram_fits.true)) c.if-k-n.true
+returns-then-slices_fit c = fits_all _ _ _ _ _ (sym c.slices_fit.ensures ∙ c.if-slices_fit.true) ((sym c.ram_fits.ensures
+    ∙ c.if-ram_fits.true)) c.if-k-n.true
 
 pub returns-else-slices_fit : goal.returns-else-slices_fit
 returns-else-slices_fit c = bad_slices _ _ _ _ _ (sym c.slices_fit.ensures ∙ c.if-slices_fit.false)

@@ -8,7 +8,13 @@ pub clear_frame-requires : goal.clear_frame-requires
 clear_frame-requires c = search (rules, arith)
 
 pub link-requires : goal.link-requires
-link-requires c = record { placed = search rules; blank = search (rules, blank); ledger_sound = search rules; t_lt_page_count = (search rules, search (rules, arith)); u_bound = search rules }
+link-requires c = record {
+  placed = search rules;
+  blank = search (rules, blank);
+  ledger_sound = search rules;
+  t_lt_page_count = (search rules, search (rules, arith));
+  u_bound = search rules;
+}
 
 pub shape_of-ram : goal.shape_of-ram
 shape_of-ram c = search (rules, arith)

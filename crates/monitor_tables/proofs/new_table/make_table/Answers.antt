@@ -9,7 +9,10 @@ pub upper-p-requires : goal.upper-p-requires
 upper-p-requires c = c.requires.growing.high
 
 pub next-u-requires : goal.next-u-requires
-next-u-requires c = let k = c.requires.growing.enough in record { ledger_sound = c.requires.growing.sound.ledger_sound; ledger_nonzero = omega (arith, c.requires.h_nonzero) }
+next-u-requires c = let k = c.requires.growing.enough in record {
+  ledger_sound = c.requires.growing.sound.ledger_sound;
+  ledger_nonzero = omega (arith, c.requires.h_nonzero);
+}
 
 pub overflow_sub-h : goal.overflow_sub-h
 overflow_sub-h c = omega (arith, c.requires.h_nonzero)
@@ -29,7 +32,8 @@ become_table-requires c = let k = c.requires.growing.high in record {
 pub clear_and_link-requires : goal.clear_and_link-requires
 clear_and_link-requires c = let few = c.requires.growing.sound.ledger_sound.few in
     let k = grow_words c.requires.growing in record {
-      placed = make_placed c.requires.growing c.requires.h_nonzero c.upper-p.ensures c.next-u.ensures.1 c.next-u.ensures.2 c.become_table.ensures;
+      placed = make_placed c.requires.growing c.requires.h_nonzero c.upper-p.ensures c.next-u.ensures.1 c.next-u.ensures.2
+          c.become_table.ensures;
       ledger_sound = c.become_table.ensures.changes.ledger_sound;
       t_lt_page_count = k;
       u_lt_page_count = (

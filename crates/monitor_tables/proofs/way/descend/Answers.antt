@@ -19,7 +19,8 @@ root-table-requires c = record {
 }
 
 pub loop-height-init : goal.loop-height-init
-loop-height-init c = way_root c.requires.sound c.args.g c.args.v c.root-table.result c.root-table.ensures c.requires.g_value.0 c.requires.g_value.1
+loop-height-init c = way_root c.requires.sound c.args.g c.args.v c.root-table.result c.root-table.ensures c.requires.g_value.0
+    c.requires.g_value.1
 
 pub upper-p-requires : goal.upper-p-requires
 upper-p-requires c = c.loop-height.invariant.high
@@ -29,17 +30,21 @@ entry-x-requires c = let k = way_words c.requires.sound c.loop-height.invariant 
     (omega arith, k.0, k.1)
 
 pub returns-then-x-eq-EMPTY : goal.returns-then-x-eq-EMPTY
-returns-then-x-eq-EMPTY c = way_short c.requires.sound c.loop-height.invariant c.entry-x.result (c.entry-x.ensures ∙ ap (λ (y : ℕ). word_of c.args.ram.now c.loop-height.table (y % 512)) c.upper-p.ensures) c.if-x-eq-EMPTY.true
+returns-then-x-eq-EMPTY c = way_short c.requires.sound c.loop-height.invariant c.entry-x.result (c.entry-x.ensures
+    ∙ ap (λ (y : ℕ). word_of c.args.ram.now c.loop-height.table (y % 512)) c.upper-p.ensures) c.if-x-eq-EMPTY.true
 
 pub table_in-table-requires : goal.table_in-table-requires
-table_in-table-requires c = way_leads c.requires.sound c.loop-height.invariant c.first-first.result c.entry-x.result c.first-first.ensures c.loop-height-test.true (c.entry-x.ensures ∙ ap (λ (y : ℕ). word_of c.args.ram.now c.loop-height.table (y % 512)) c.upper-p.ensures)
+table_in-table-requires c = way_leads c.requires.sound c.loop-height.invariant c.first-first.result c.entry-x.result
+    c.first-first.ensures c.loop-height-test.true (c.entry-x.ensures ∙ ap (λ (y : ℕ). word_of c.args.ram.now c.loop-height.table
+    (y % 512)) c.upper-p.ensures)
     c.if-x-eq-EMPTY.false
 
 pub loop-height-smaller : goal.loop-height-smaller
 loop-height-smaller c = omega arith
 
 pub loop-height-preserved : goal.loop-height-preserved
-loop-height-preserved c = way_down c.requires.sound c.loop-height.invariant c.first-first.result c.entry-x.result c.first-first.ensures c.loop-height-test.true (c.entry-x.ensures ∙ ap (λ (y : ℕ). word_of c.args.ram.now c.loop-height.table (y % 512)) c.upper-p.ensures)
+loop-height-preserved c = way_down c.requires.sound c.loop-height.invariant c.first-first.result c.entry-x.result c.first-first.ensures
+    c.loop-height-test.true (c.entry-x.ensures ∙ ap (λ (y : ℕ). word_of c.args.ram.now c.loop-height.table (y % 512)) c.upper-p.ensures)
     c.if-x-eq-EMPTY.false _ c.table_in-table.ensures
 
 pub returns : goal.returns

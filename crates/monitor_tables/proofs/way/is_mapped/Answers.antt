@@ -11,7 +11,9 @@ entry-x-requires c = let k = way_words c.requires.sound c.requires.ended.reached
     (omega arith, k.0, k.1)
 
 pub returns-then-x-eq-EMPTY : goal.returns-then-x-eq-EMPTY
-returns-then-x-eq-EMPTY c = mapped_not c.requires.sound c.requires.g_value c.requires.ended c.if-h-ne0.false c.entry-x.result c.entry-x.ensures c.if-x-eq-EMPTY.true
+returns-then-x-eq-EMPTY c = mapped_not c.requires.sound c.requires.g_value c.requires.ended c.if-h-ne0.false c.entry-x.result
+    c.entry-x.ensures c.if-x-eq-EMPTY.true
 
 pub returns : goal.returns
-returns c = mapped_here c.requires.sound c.requires.g_value c.requires.ended c.if-h-ne0.false c.entry-x.result c.entry-x.ensures c.if-x-eq-EMPTY.false
+returns c = mapped_here c.requires.sound c.requires.g_value c.requires.ended c.if-h-ne0.false c.entry-x.result c.entry-x.ensures
+    c.if-x-eq-EMPTY.false

@@ -37,7 +37,8 @@ returns-in-Number c = wrote_within (wrote_then c.put_decimal-at.ensures c.put_li
 
 pub returns-in-Contents : goal.returns-in-Contents
 unfolding reply_text
-returns-in-Contents c = wrote_within (wrote_then c.put_word-at.ensures c.put_line_end-in-Contents.ensures) (omega arith) (rw c.in-Contents.is)
+returns-in-Contents c = wrote_within (wrote_then c.put_word-at.ensures c.put_line_end-in-Contents.ensures) (omega arith)
+    (rw c.in-Contents.is)
 
 pub returns-in-Walked : goal.returns-in-Walked
 unfolding reply_text

@@ -13,7 +13,13 @@ pub slice_bounds-put_ledger-end-2 : goal.slice_bounds-put_ledger-end-2
 slice_bounds-put_ledger-end-2 c = ledger_part c.requires.0 c.requires.1
 
 pub put_ledger-requires : goal.put_ledger-requires
-put_ledger-requires c = record { sound = c.requires.0.sound c.requires.1; ledger_in_bounds = omega (arith, (size_is c.requires.0 c.requires.1)) }
+put_ledger-requires c = record {
+  sound = c.requires.0.sound c.requires.1;
+  ledger_in_bounds = omega (
+    arith,
+    (size_is c.requires.0 c.requires.1),
+  );
+}
 
 pub returns : goal.returns
 unfolding reply_text

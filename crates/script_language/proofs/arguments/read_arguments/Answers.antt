@@ -16,7 +16,9 @@ pub word_start-from-requires : goal.word_start-from-requires
 word_start-from-requires c = c.loop-i.invariant.inside
 
 pub returns-then-from-s : goal.returns-then-from-s
-returns-then-from-s c = too_few c.args.v c.loop-i.invariant (omega (arith, (command_fits c.command_numbers-numbers.ensures c.access_and_level.ensures).counted)) c.if-from-s.true c.word_start-from.ensures.1
+returns-then-from-s c = too_few c.args.v c.loop-i.invariant
+    (omega (arith, (command_fits c.command_numbers-numbers.ensures c.access_and_level.ensures).counted)) c.if-from-s.true
+    c.word_start-from.ensures.1
 
 pub word_end-at-requires : goal.word_end-at-requires
 word_end-at-requires c = c.word_start-from.ensures.0
@@ -37,25 +39,44 @@ pub bounds-a-i : goal.bounds-a-i
 bounds-a-i c = omega (arith, (command_fits c.command_numbers-numbers.ensures c.access_and_level.ensures).few, c.loop-i.invariant.room)
 
 pub returns-in-Wrong : goal.returns-in-Wrong
-returns-in-Wrong c = wrong_word c.args.v c.loop-i.invariant (omega (arith, (command_fits c.command_numbers-numbers.ensures c.access_and_level.ensures).counted)) c.word_start-from.ensures.0 c.if-from-s.false
+returns-in-Wrong c = wrong_word c.args.v c.loop-i.invariant
+    (omega (arith, (command_fits c.command_numbers-numbers.ensures c.access_and_level.ensures).counted)) c.word_start-from.ensures.0
+    c.if-from-s.false
     c.word_start-from.ensures.1 c.word_end-at.ensures ((c.read_argument.ensures
-    ∙ rw (c.form_of.ensures c.access_and_level.result (rw (command_fits c.command_numbers-numbers.ensures c.access_and_level.ensures).forms (omega (arith, (command_fits c.command_numbers-numbers.ensures c.access_and_level.ensures).counted))), (command_fits c.command_numbers-numbers.ensures c.access_and_level.ensures).forms))) c.in-Wrong.is
+    ∙ rw (
+      c.form_of.ensures c.access_and_level.result
+          (rw (command_fits c.command_numbers-numbers.ensures c.access_and_level.ensures).forms
+          (omega (arith, (command_fits c.command_numbers-numbers.ensures c.access_and_level.ensures).counted))),
+      (command_fits c.command_numbers-numbers.ensures c.access_and_level.ensures).forms,
+    ))) c.in-Wrong.is
 
 pub overflow_add-i : goal.overflow_add-i
 overflow_add-i c = omega (arith, (command_fits c.command_numbers-numbers.ensures c.access_and_level.ensures).few)
 
 pub loop-i-preserved : goal.loop-i-preserved
-loop-i-preserved c = reading_more c.loop-i.invariant (omega (arith, (command_fits c.command_numbers-numbers.ensures c.access_and_level.ensures).counted)) (omega (arith, (command_fits c.command_numbers-numbers.ensures c.access_and_level.ensures).few)) c.word_start-from.ensures.0 c.if-from-s.false
+loop-i-preserved c = reading_more c.loop-i.invariant
+    (omega (arith, (command_fits c.command_numbers-numbers.ensures c.access_and_level.ensures).counted))
+    (omega (arith, (command_fits c.command_numbers-numbers.ensures c.access_and_level.ensures).few)) c.word_start-from.ensures.0
+    c.if-from-s.false
     c.word_start-from.ensures.1 c.word_end-at.ensures ((c.read_argument.ensures
-    ∙ rw (c.form_of.ensures c.access_and_level.result (rw (command_fits c.command_numbers-numbers.ensures c.access_and_level.ensures).forms (omega (arith, (command_fits c.command_numbers-numbers.ensures c.access_and_level.ensures).counted))), (command_fits c.command_numbers-numbers.ensures c.access_and_level.ensures).forms))) c.in-Given.is
+    ∙ rw (
+      c.form_of.ensures c.access_and_level.result
+          (rw (command_fits c.command_numbers-numbers.ensures c.access_and_level.ensures).forms
+          (omega (arith, (command_fits c.command_numbers-numbers.ensures c.access_and_level.ensures).counted))),
+      (command_fits c.command_numbers-numbers.ensures c.access_and_level.ensures).forms,
+    ))) c.in-Given.is
 
 pub word_start-requires : goal.word_start-requires
 word_start-requires c = c.loop-i.invariant.inside
 
 pub returns-then-word_start-s : goal.returns-then-word_start-s
 returns-then-word_start-s c = ap Asks c.command_with.ensures
-    ∙ all_read c.args.v c.loop-i.invariant (omega (arith, (command_fits c.command_numbers-numbers.ensures c.access_and_level.ensures).counted)) c.if-word_start-s.true c.word_start.ensures.1
+    ∙ all_read c.args.v c.loop-i.invariant
+    (omega (arith, (command_fits c.command_numbers-numbers.ensures c.access_and_level.ensures).counted)) c.if-word_start-s.true
+    c.word_start.ensures.1
 
 pub returns : goal.returns
-returns c = too_many c.args.v c.loop-i.invariant (omega (arith, (command_fits c.command_numbers-numbers.ensures c.access_and_level.ensures).counted)) c.word_start.ensures.0 c.if-word_start-s.false
+returns c = too_many c.args.v c.loop-i.invariant
+    (omega (arith, (command_fits c.command_numbers-numbers.ensures c.access_and_level.ensures).counted)) c.word_start.ensures.0
+    c.if-word_start-s.false
     c.word_start.ensures.1

@@ -42,4 +42,6 @@ returns-in-8 c = (at_place command_table c.args.w.now (operation_word c.args.w.n
 
 pub returns-in_default : goal.returns-in_default
 unfolding first_word
-returns-in_default c = c.operation_word.ensures ∙ (no_place command_table c.args.w.now (operation_word c.args.w.now) command_words c.word_index-k.ensures) c.in_default.in_default-own.rest
+returns-in_default c = c.operation_word.ensures
+    ∙ (no_place command_table c.args.w.now (operation_word c.args.w.now) command_words c.word_index-k.ensures)
+    c.in_default.in_default-own.rest

@@ -42,4 +42,5 @@ returns-in-8 c = (at_place operation_table c.args.w.now Unknown operation_words 
 
 pub returns-in_default : goal.returns-in_default
 unfolding operation_word
-returns-in_default c = (no_place operation_table c.args.w.now Unknown operation_words c.word_index-k.ensures) c.in_default.in_default-own.rest
+returns-in_default c = (no_place operation_table c.args.w.now Unknown operation_words c.word_index-k.ensures)
+    c.in_default.in_default-own.rest

@@ -17,7 +17,8 @@ pub perform-k-requires : goal.perform-k-requires
 perform-k-requires c = c.requires.sound c.if-m.true
 
 pub returns-then-m : goal.returns-then-m
-returns-then-m c = operated _ _ _ _ c.requires c.if-m.true _ _ _ _ _ c.perform-k.ensures c.perform-k.auto.ram c.perform-k.auto.ledger refl refl
+returns-then-m c = operated _ _ _ _ c.requires c.if-m.true _ _ _ _ _ c.perform-k.ensures c.perform-k.auto.ram c.perform-k.auto.ledger
+    refl refl
 
 pub returns : goal.returns
 returns c = record { effect = rw c.if-m.false (refl, refl, refl); machine_sound = c.requires }

@@ -24,16 +24,19 @@ pub slice_bounds-set_up-end : goal.slice_bounds-set_up-end
 slice_bounds-set_up-end c = omega (arith, (allowed _ _ _ _ _ ((sym c.allowed.ensures ∙ c.if-allowed.true))).enough, c.clear.auto)
 
 pub slice_bounds-set_up-end-then-allowed : goal.slice_bounds-set_up-end-then-allowed
-slice_bounds-set_up-end-then-allowed c = sym (length-take-le (frame_bytes * c.args.frames) c.clear.new.m (omega (arith, (allowed _ _ _ _ _ ((sym c.allowed.ensures ∙ c.if-allowed.true))).enough, c.clear.auto)))
+slice_bounds-set_up-end-then-allowed c = sym (length-take-le (frame_bytes * c.args.frames) c.clear.new.m
+    (omega (arith, (allowed _ _ _ _ _ ((sym c.allowed.ensures ∙ c.if-allowed.true))).enough, c.clear.auto)))
 
 pub slice_bounds-set_up-end-then-allowed-2 : goal.slice_bounds-set_up-end-then-allowed-2
 slice_bounds-set_up-end-then-allowed-2 c = (allowed _ _ _ _ _ ((sym c.allowed.ensures ∙ c.if-allowed.true))).room
 
 pub slice_bounds-set_up-end-then-allowed-3 : goal.slice_bounds-set_up-end-then-allowed-3
-slice_bounds-set_up-end-then-allowed-3 c = sym (length-take-le (words_for c.args.frames) c.args.ledger.now (allowed _ _ _ _ _ ((sym c.allowed.ensures ∙ c.if-allowed.true))).room)
+slice_bounds-set_up-end-then-allowed-3 c = sym (length-take-le (words_for c.args.frames) c.args.ledger.now
+    (allowed _ _ _ _ _ ((sym c.allowed.ensures ∙ c.if-allowed.true))).room)
 
 pub returns-then-allowed : goal.returns-then-allowed
-returns-then-allowed c = begun _ _ _ _ _ _ ((sym c.allowed.ensures ∙ c.if-allowed.true)) _ _ _ _ c.clear.ensures c.set_up-answer.ensures c.set_up-answer.auto.ledger refl
+returns-then-allowed c = begun _ _ _ _ _ _ ((sym c.allowed.ensures ∙ c.if-allowed.true)) _ _ _ _ c.clear.ensures
+    c.set_up-answer.ensures c.set_up-answer.auto.ledger refl
 
 pub returns : goal.returns
 returns c = record { effect = rw (sym c.allowed.ensures ∙ c.if-allowed.false) (refl, refl, refl); machine_sound = c.requires }

@@ -8,7 +8,11 @@ pub overflow_sub-a : goal.overflow_sub-a
 overflow_sub-a c = omega (arith, (place _ _ (sym c.in_ram.ensures ∙ c.if-in_ram.true)).0)
 
 pub word-requires : goal.word-requires
-word-requires c = omega (arith, (place _ _ (sym c.in_ram.ensures ∙ c.if-in_ram.true)).0, (place _ _ (sym c.in_ram.ensures ∙ c.if-in_ram.true)).1)
+word-requires c = omega (
+  arith,
+  (place _ _ (sym c.in_ram.ensures ∙ c.if-in_ram.true)).0,
+  (place _ _ (sym c.in_ram.ensures ∙ c.if-in_ram.true)).1,
+)
 
 pub returns-then-in_ram : goal.returns-then-in_ram
 returns-then-in_ram c = simp (

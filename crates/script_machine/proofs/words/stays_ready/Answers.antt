@@ -15,7 +15,14 @@ overflow_sub-a c = (place _ _ c.requires.a_value).0
 pub in_table-requires : goal.in_table-requires
 in_table-requires c = let p = place _ _ c.requires.a_value in
     let w = c.requires.machine_sound.within in
-    let n = size_is c.requires.machine_sound c.if-m.true in record { ledger_sound = (c.requires.machine_sound.sound c.if-m.true).ledger_sound; word_bytes_bound = (omega (arith, p.1), omega (arith, p.1)) }
+    let n = size_is c.requires.machine_sound c.if-m.true in
+    record {
+      ledger_sound = (c.requires.machine_sound.sound c.if-m.true).ledger_sound;
+      word_bytes_bound = (
+        omega (arith, p.1),
+        omega (arith, p.1),
+      );
+    }
 
 pub returns-then-in_table : goal.returns-then-in_table
 unfolding word_in_table

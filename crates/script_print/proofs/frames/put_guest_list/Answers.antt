@@ -22,7 +22,8 @@ pub loop-g-preserved-then-least-share : goal.loop-g-preserved-then-least-share
 loop-g-preserved-then-least-share c = (
   omega arith,
   omega (arith, c.put_listed_guest-next.auto, c.loop-g.invariant.1),
-  list_more c.args.least ((share_told (state_of c.args.ram.now c.args.ledger.now) c.args.f)) c.loop-g.g c.loop-g.invariant.2 c.shared_with-share.ensures c.if-least-share.true
+  list_more c.args.least ((share_told (state_of c.args.ram.now c.args.ledger.now) c.args.f)) c.loop-g.g c.loop-g.invariant.2
+      c.shared_with-share.ensures c.if-least-share.true
       c.put_listed_guest-next.ensures,
 )
 
@@ -33,7 +34,8 @@ pub loop-g-preserved : goal.loop-g-preserved
 loop-g-preserved c = (
   omega arith,
   c.loop-g.invariant.1,
-  list_passed c.args.least ((share_told (state_of c.args.ram.now c.args.ledger.now) c.args.f)) c.loop-g.g c.loop-g.invariant.2 c.shared_with-share.ensures c.if-least-share.false,
+  list_passed c.args.least ((share_told (state_of c.args.ram.now c.args.ledger.now) c.args.f)) c.loop-g.g c.loop-g.invariant.2
+      c.shared_with-share.ensures c.if-least-share.false,
 )
 
 pub put-requires : goal.put-requires
@@ -43,10 +45,12 @@ pub shape_of-out-then-next-at : goal.shape_of-out-then-next-at
 shape_of-out-then-next-at c = omega (arith, c.put.auto, c.loop-g.invariant.1)
 
 pub returns-then-next-at : goal.returns-then-next-at
-returns-then-next-at c = list_empty c.args.least ((share_told (state_of c.args.ram.now c.args.ledger.now) c.args.f)) c.loop-g.g c.loop-g.invariant.2 c.loop-g.invariant.0 c.loop-g-test.false c.if-next-at.true c.put.ensures
+returns-then-next-at c = list_empty c.args.least ((share_told (state_of c.args.ram.now c.args.ledger.now) c.args.f)) c.loop-g.g
+    c.loop-g.invariant.2 c.loop-g.invariant.0 c.loop-g-test.false c.if-next-at.true c.put.ensures
 
 pub shape_of-out : goal.shape_of-out
 shape_of-out c = c.loop-g.invariant.1
 
 pub returns : goal.returns
-returns c = list_full c.args.least ((share_told (state_of c.args.ram.now c.args.ledger.now) c.args.f)) c.loop-g.g c.loop-g.invariant.2 c.loop-g.invariant.0 c.loop-g-test.false c.if-next-at.false
+returns c = list_full c.args.least ((share_told (state_of c.args.ram.now c.args.ledger.now) c.args.f)) c.loop-g.g c.loop-g.invariant.2
+    c.loop-g.invariant.0 c.loop-g-test.false c.if-next-at.false

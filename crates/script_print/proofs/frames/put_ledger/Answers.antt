@@ -12,7 +12,15 @@ pub loop-f-init : goal.loop-f-init
 loop-f-init c = (omega arith, refl, lines_none ((state_of c.args.ram.now c.args.ledger.now)))
 
 pub put_line-next-requires : goal.put_line-next-requires
-put_line-next-requires c = record { sound = c.requires.sound; line_bytes_in_bounds = omega (arith, c.size-n.ensures.0, c.loop-f.invariant.1, c.loop-f.invariant.2.near) }
+put_line-next-requires c = record {
+  sound = c.requires.sound;
+  line_bytes_in_bounds = omega (
+    arith,
+    c.size-n.ensures.0,
+    c.loop-f.invariant.1,
+    c.loop-f.invariant.2.near,
+  );
+}
 
 pub overflow_add-f : goal.overflow_add-f
 overflow_add-f c = omega (arith, c.size-n.ensures.1)

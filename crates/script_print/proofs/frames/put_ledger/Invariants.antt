@@ -8,7 +8,8 @@ use Rattle.script_print.proofs.frames.put_ledger.Given as goal
 
 abbrev pub invariant-loop-f : goal.invariant-loop-f
 invariant-loop-f l =
-    (l.f ≤ l.n) × (length l.out ≡ length l.initial.out) × Wrote (line_bytes * l.f) l.initial.out l.at l.out l.next (lines_to (state_of l.ram l.ledger) l.f)
+    (l.f ≤ l.n) × (length l.out ≡ length l.initial.out) × Wrote (line_bytes * l.f) l.initial.out l.at l.out l.next
+    (lines_to (state_of l.ram l.ledger) l.f)
 
 abbrev pub decreases-loop-f : goal.decreases-loop-f
 decreases-loop-f l = l.n - l.f

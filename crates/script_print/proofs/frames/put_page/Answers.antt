@@ -18,4 +18,6 @@ put_field-requires c = omega (
 
 pub returns : goal.returns
 unfolding page_text
-returns c = wrote_within (wrote_then ((wrote_then (wrote_then ((wrote_then (wrote_then c.put_field-owned.ensures c.put-readers.ensures) c.put_guest_list-read.ensures)) c.put-writers.ensures) c.put_guest_list-written.ensures)) c.put_field.ensures) (omega arith) refl
+returns c = wrote_within (wrote_then
+    ((wrote_then (wrote_then ((wrote_then (wrote_then c.put_field-owned.ensures c.put-readers.ensures) c.put_guest_list-read.ensures))
+    c.put-writers.ensures) c.put_guest_list-written.ensures)) c.put_field.ensures) (omega arith) refl

@@ -14,5 +14,6 @@ returns-in-Absent c = wrote_within (wrote_then c.put-next.ensures c.put_dirty.en
 
 pub returns-in-Present : goal.returns-in-Present
 unfolding guest_text
-returns-in-Present c = wrote_within (wrote_then (wrote_then c.put-next-in-Present.ensures c.put_hex-after.ensures) c.put_dirty-in-Present.ensures)
+returns-in-Present c = wrote_within (wrote_then (wrote_then c.put-next-in-Present.ensures c.put_hex-after.ensures)
+    c.put_dirty-in-Present.ensures)
     (omega arith) (rw c.in-Present.is)

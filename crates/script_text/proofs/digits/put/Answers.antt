@@ -13,7 +13,11 @@ pub bounds-out-at : goal.bounds-out-at
 bounds-out-at c = omega arith
 
 pub loop-i-preserved : goal.loop-i-preserved
-loop-i-preserved c = (omega arith, simp length-set c.loop-i.invariant.1, put_more _ _ _ _ _ (omega arith) c.loop-i-test.true c.loop-i.invariant.2)
+loop-i-preserved c = (
+  omega arith,
+  simp length-set c.loop-i.invariant.1,
+  put_more _ _ _ _ _ (omega arith) c.loop-i-test.true c.loop-i.invariant.2,
+)
 
 pub shape_of-out : goal.shape_of-out
 shape_of-out c = c.loop-i.invariant.1

@@ -5,7 +5,8 @@ use lib.ListN.{length, take}
 use Rattle.script_text.proofs.digits.put.Given as goal
 
 abbrev pub invariant-loop-i : goal.invariant-loop-i
-invariant-loop-i l = (l.i ≤ length l.text) × (length l.out ≡ length l.initial.out) × (take (l.at + l.i) l.out ≡ take l.at l.initial.out ++ take l.i l.text)
+invariant-loop-i l = (l.i ≤ length l.text) × (length l.out ≡ length l.initial.out) ×
+    (take (l.at + l.i) l.out ≡ take l.at l.initial.out ++ take l.i l.text)
 
 abbrev pub decreases-loop-i : goal.decreases-loop-i
 decreases-loop-i l = length l.text - l.i

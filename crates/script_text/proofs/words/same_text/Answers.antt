@@ -15,7 +15,12 @@ pub returns-then-a-i : goal.returns-then-a-i
 returns-then-a-i c = same_stop _ _ _ c.loop-i-test.true c.loop-i.invariant.1 c.loop-i.invariant.2 c.if-a-i.true
 
 pub loop-i-preserved : goal.loop-i-preserved
-loop-i-preserved c = (omega arith, c.loop-i.invariant.1, same_more _ _ _ c.loop-i-test.true c.loop-i.invariant.1 c.loop-i.invariant.2 c.if-a-i.false)
+loop-i-preserved c = (
+  omega arith,
+  c.loop-i.invariant.1,
+  same_more _ _ _ c.loop-i-test.true c.loop-i.invariant.1 c.loop-i.invariant.2
+      c.if-a-i.false,
+)
 
 pub returns : goal.returns
 returns c = same_last _ _ _ c.loop-i-test.false c.loop-i.invariant.1 c.loop-i.invariant.2

@@ -6,13 +6,30 @@ use Rattle.walk.proofs.stage_1.from_descriptor.Goals as goal
 
 pub returns-in-Down : goal.returns-in-Down
 returns-in-Down c = let up = lower (after_step_1 _ _ c.args.root2 _ _ _ _ c.args.before _ c.requires.0 c.visit-step.ensures) c.in-Down.is in
-    record { so = (up.0, up.1, omega arith, went_down (after_step_1 _ _ c.args.root2 _ _ _ _ c.args.before _ c.requires.0 c.visit-step.ensures) c.in-Down.is refl) }
+    record {
+      so = (
+        up.0,
+        up.1,
+        omega arith,
+        went_down (after_step_1 _ _ c.args.root2 _ _ _ _ c.args.before _ c.requires.0 c.visit-step.ensures) c.in-Down.is refl,
+      );
+    }
 
 pub returns-in-Output : goal.returns-in-Output
-returns-in-Output c = record { so = sym (went_out (after_step_1 _ _ c.args.root2 _ _ _ _ c.args.before _ c.requires.0 c.visit-step.ensures) c.in-Output.is ∙ answered_last _ _ ∙ sym c.answer.ensures) }
+returns-in-Output c = record {
+  so = sym
+      (went_out (after_step_1 _ _ c.args.root2 _ _ _ _ c.args.before _ c.requires.0 c.visit-step.ensures) c.in-Output.is
+      ∙ answered_last _ _ ∙ sym c.answer.ensures);
+}
 
 pub returns-in-Fail : goal.returns-in-Fail
-returns-in-Fail c = record { so = sym (went_wrong (after_step_1 _ _ c.args.root2 _ _ _ _ c.args.before _ c.requires.0 c.visit-step.ensures) c.in-Fail.is) }
+returns-in-Fail c = record {
+  so = sym
+      (went_wrong (after_step_1 _ _ c.args.root2 _ _ _ _ c.args.before _ c.requires.0 c.visit-step.ensures) c.in-Fail.is);
+}
 
 pub returns-in-Absent : goal.returns-in-Absent
-returns-in-Absent c = record { so = sym (was_absent (after_step_1 _ _ c.args.root2 _ _ _ _ c.args.before _ c.requires.0 c.visit-step.ensures) c.in-Absent.is) }
+returns-in-Absent c = record {
+  so = sym
+      (was_absent (after_step_1 _ _ c.args.root2 _ _ _ _ c.args.before _ c.requires.0 c.visit-step.ensures) c.in-Absent.is);
+}

@@ -12,7 +12,11 @@ from_descriptor-requires c = let low = reached_low _ _ _ _ _ _ c.walk-way.ensure
     (omega arith, omega arith, omega arith, omega arith)
 
 pub returns-in-Failed : goal.returns-in-Failed
-returns-in-Failed c = record { so = sym (was_lost (arrives _ _ _ c.args.access c.args.el _ _ _ _ c.requires.0 c.slot-ipa.ensures.0 c.walk-way.ensures) c.in-Failed.is) }
+returns-in-Failed c = record {
+  so = sym (was_lost (arrives _ _ _ c.args.access c.args.el _ _ _ _ c.requires.0 c.slot-ipa.ensures.0
+      c.walk-way.ensures) c.in-Failed.is);
+}
 
 pub returns-in-Reached : goal.returns-in-Reached
-returns-in-Reached c = followed (arrives _ _ _ c.args.access c.args.el _ _ _ _ c.requires.0 c.slot-ipa.ensures.0 c.walk-way.ensures) c.in-Reached.is c.from_descriptor.ensures
+returns-in-Reached c = followed (arrives _ _ _ c.args.access c.args.el _ _ _ _ c.requires.0 c.slot-ipa.ensures.0 c.walk-way.ensures)
+    c.in-Reached.is c.from_descriptor.ensures
