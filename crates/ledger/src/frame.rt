@@ -1,7 +1,8 @@
 // A frame's row: what it is, whom it is shared with, and in how many places it is mapped.
+// A clause reads a constant of the code where the code has one of the name: so the definitions' have another here.
 ghost use Rattle.std.specs.Prelude.{◌≡◌, true, ◌+◌, ◌*◌, ◌<◌, ◌≤◌};
-ghost use Rattle.model.specs.State.{kind_number, is_free, is_page, is_page_of, is_guest, total, WRITING};
-ghost use Rattle.ledger.specs.Columns.{SHARE_UNIT, WORD_LIMIT};
+ghost use Rattle.model.specs.State.{kind_number, is_free, is_page, is_page_of, is_guest, total, WRITING as writing};
+ghost use Rattle.ledger.specs.Columns.{SHARE_UNIT as share_unit, WORD_LIMIT};
 ghost use Rattle.ledger.specs.Layout.{frames, size_of, kind_of, shared_of, count_of, Cell};
 ghost use Rattle.ledger.specs.Kinds.{guest_in, kind_for};
 ghost use Rattle.ledger.specs.Fields.{with_cell, with_share, with_no_shares, with_count};
@@ -98,7 +99,7 @@ fn set_cell(ledger: &mut [u32], f: u64, g: u64, how: u64, c: u64)
     requires ledger_sound { LedgerSound ledger.old }
     requires f_bound { f < size_of ledger.old }
     requires g_value { is_guest g ≡ true }
-    requires c_bound { (how * SHARE_UNIT + c < WORD_LIMIT) × (c < SHARE_UNIT) }
+    requires c_bound { (how * share_unit + c < WORD_LIMIT) × (c < share_unit) }
     ensures { Changed (with_cell f g how c) ledger.old ledger.new }
 {
     cells::store_of_frame(ledger, columns::CELLS + g, f, how * SHARE_UNIT + c);
@@ -128,7 +129,7 @@ pub fn set_share(ledger: &mut [u32], f: u64, g: u64, how: u64)
     requires ledger_sound { LedgerSound ledger.old }
     requires f_bound { f < size_of ledger.old }
     requires g_value { is_guest g ≡ true }
-    requires how_bound { how ≤ WRITING }
+    requires how_bound { how ≤ writing }
     ensures { Changed (with_share f g how) ledger.old ledger.new }
 {
     let x = cell(ledger, f, g);
@@ -139,7 +140,7 @@ pub fn set_count(ledger: &mut [u32], f: u64, g: u64, c: u64)
     requires ledger_sound { LedgerSound ledger.old }
     requires f_bound { f < size_of ledger.old }
     requires g_value { is_guest g ≡ true }
-    requires c_bound { c < SHARE_UNIT }
+    requires c_bound { c < share_unit }
     ensures { Changed (with_count f g c) ledger.old ledger.new }
 {
     let x = cell(ledger, f, g);

@@ -1,7 +1,8 @@
 // A guest's row: whether it exists, whether it is dirty, its root table.
+// A clause reads a constant of the code where the code has one of the name: so the definitions' have another here.
 ghost use Rattle.std.specs.Prelude.{◌≡◌, ◌<◌, ◌≤◌, eqb};
 ghost use Rattle.model.specs.State.{is_guest};
-ghost use Rattle.ledger.specs.Columns.{GUEST_ROWS, WORD_LIMIT, YES};
+ghost use Rattle.ledger.specs.Columns.{GUEST_ROWS, WORD_LIMIT, YES as yes};
 ghost use Rattle.ledger.specs.Layout.{exists_of, dirty_of, root_of};
 ghost use Rattle.ledger.specs.Fields.{with_existence, with_dirt, with_root_at};
 ghost use Rattle.ledger.specs.LedgerSound.{LedgerSound, Changed};
@@ -53,8 +54,8 @@ pub fn root(ledger: &[u32], g: u64) -> u64
 // YES: it exists; NO: it does not.
 pub fn set_existence(ledger: &mut [u32], g: u64, v: u64)
     requires ledger_sound { LedgerSound ledger.old }
-    requires g_bound { (g < GUEST_ROWS) × (v ≤ YES) }
-    ensures { Changed (with_existence g (eqb v YES)) ledger.old ledger.new }
+    requires g_bound { (g < GUEST_ROWS) × (v ≤ yes) }
+    ensures { Changed (with_existence g (eqb v yes)) ledger.old ledger.new }
 {
     cells::store_of_guest(ledger, columns::EXISTS, g, v);
 }
@@ -62,8 +63,8 @@ pub fn set_existence(ledger: &mut [u32], g: u64, v: u64)
 // YES: it is dirty; NO: it is not.
 pub fn set_dirty(ledger: &mut [u32], g: u64, v: u64)
     requires ledger_sound { LedgerSound ledger.old }
-    requires g_bound { (g < GUEST_ROWS) × (v ≤ YES) }
-    ensures { Changed (with_dirt g (eqb v YES)) ledger.old ledger.new }
+    requires g_bound { (g < GUEST_ROWS) × (v ≤ yes) }
+    ensures { Changed (with_dirt g (eqb v yes)) ledger.old ledger.new }
 {
     cells::store_of_guest(ledger, columns::DIRTY, g, v);
 }

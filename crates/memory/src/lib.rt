@@ -16,6 +16,7 @@ pub const MOST_FRAMES: u64 = 65536;
 pub const ADDRESS_END: u64 = 0x1000000000000;
 
 // Whether RAM of `frames` frames from physical address `base` on is one that document 01, section 1 describes.
+#[tactic(auto, unfolding(crate::specs::Ram::ram_fits))]
 pub fn ram_fits(base: u64, frames: u64) -> bool
     ensures { result ≡ ram_fits base frames }
 {

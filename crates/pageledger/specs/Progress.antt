@@ -2,7 +2,6 @@
 use Rattle.std.specs.Prelude.{ℕ, ◌+◌, ◌≤◌, List, length}
 use Rattle.script.specs.LineAnswered.{room_for}
 use Rattle.script_machine.specs.Machine.{MachineSound}
-use Rattle.script_machine.specs.declared.Machine.{Machine}
 use Rattle.pageledger.specs.declared.Progress.{Progress}
 
 -- for a line and an output of so many bytes: the line that is gathered fits, the machine can count on RAM and ledger, and the output
@@ -11,8 +10,3 @@ pub record ProgressSound (s : Progress) (line : ℕ) (ram ledger : List ℕ) (ou
   pub gathered : s.gathered ≤ line
   pub machine_sound : MachineSound s.machine ram ledger
   pub room : s.pending + room_for (length ram) ≤ out
-
--- what a read or a write that failed leaves: RAM and ledger are still what some machine can count on
-pub record LeavesMachine (ram ledger : List ℕ) : Type 0 where
-  pub machine : Machine
-  pub machine_sound : MachineSound machine ram ledger

@@ -1,13 +1,12 @@
 // Runs a script: standard input to standard output.
 #![tactic(auto)]
 
-ghost use Rattle.std.specs.Prelude.{◌≡◌, ◌+◌, ◌<◌, ◌≤◌, length, IfOk, OnErr};
+ghost use Rattle.std.specs.Prelude.{◌≡◌, ◌+◌, ◌≤◌, length};
 ghost use Rattle.script.specs.LineAnswered.{room_for, Room};
-ghost use Rattle.pageledger.specs.Progress.{ProgressSound, LeavesMachine};
+ghost use Rattle.pageledger.specs.Progress.{ProgressSound};
 
 use ledger::columns::{HEADER_WORDS, ROW_WORDS};
 use script_machine::Machine;
-use std::io;
 use std::io::{Read, Write};
 
 // The frames that a script can have.
@@ -37,25 +36,24 @@ struct Progress {
     pending: usize,
 }
 
-// Writes the first n bytes. This fails, as all that stands on it, where the output can't be written; then nothing more is.
-fn write_out<W: Write>(output: &mut W, out: &[u8], n: usize) -> io::Result<()>
+// Writes the first n bytes. What can't be written is passed over: the script is run to its end all the same.
+fn write_out<W: Write>(output: &mut W, out: &[u8], n: usize)
     requires { n ≤ length out.now }
 {
-    output.write_all(&out[..n])
+    let _written = output.write_all(&out[..n]);
 }
 
 // Writes the output where there is no room for another answer, and says how much of it is left.
-fn flush_if_full<W: Write>(output: &mut W, out: &[u8], ram: &[u8], n: usize) -> io::Result<usize>
+fn flush_if_full<W: Write>(output: &mut W, out: &[u8], ram: &[u8], n: usize) -> usize
     requires { (n ≤ length out.now) × (Room (length ram.now) (length out.now)) }
-    ensures ok { IfOk result (λ left. left + room_for (length ram.now) ≤ length out.now) }
-    ensures err { OnErr result (length out.now < n + room_for (length ram.now)) }
+    ensures { result + room_for (length ram.now) ≤ length out.now }
 {
     let room = ram.len() / RAM_PER_ROOM + REPLY_BYTES;
     if n <= out.len() - room {
-        return Ok(n);
+        return n;
     }
-    write_out(output, out, n)?;
-    Ok(0)
+    write_out(output, out, n);
+    0
 }
 
 // Answers the line that was gathered.
@@ -66,21 +64,19 @@ fn end_line<W: Write>(
     ram: &mut [u8],
     ledger: &mut [u32],
     out: &mut [u8],
-) -> io::Result<Progress>
+) -> Progress
     requires { ProgressSound s (length line.now) ram.old ledger.old (length out.old) }
-    ensures ok { IfOk result (λ p. ProgressSound p (length line.now) ram.new ledger.new (length out.old)) }
-    ensures err { OnErr result (LeavesMachine ram.new ledger.new) }
+    ensures { ProgressSound result (length line.now) ram.new ledger.new (length out.old) }
 {
     let n = s.gathered;
     let at = s.pending;
     let done = script::answer_line(&line[..n], s.machine, ram, ledger, &mut out[at..]);
     let machine = done.machine;
-    let pending = flush_if_full(output, out, ram, at + done.printed)?;
-    Ok(Progress {
+    Progress {
         machine,
         gathered: 0,
-        pending,
-    })
+        pending: flush_if_full(output, out, ram, at + done.printed),
+    }
 }
 
 // One byte more of a line. A line of 4,096 bytes or more stays one of 4,096.
@@ -110,15 +106,14 @@ fn take_byte<W: Write>(
     ram: &mut [u8],
     ledger: &mut [u32],
     out: &mut [u8],
-) -> io::Result<Progress>
+) -> Progress
     requires { ProgressSound s (length line.old) ram.old ledger.old (length out.old) }
-    ensures ok { IfOk result (λ p. ProgressSound p (length line.old) ram.new ledger.new (length out.old)) }
-    ensures err { OnErr result (LeavesMachine ram.new ledger.new) }
+    ensures { ProgressSound result (length line.old) ram.new ledger.new (length out.old) }
 {
     if b == b'\n' {
         return end_line(output, s, line, ram, ledger, out);
     }
-    Ok(gather_byte(s, line, b))
+    gather_byte(s, line, b)
 }
 
 // The bytes that one read of the input gave.
@@ -130,21 +125,20 @@ fn take_bytes<W: Write>(
     ram: &mut [u8],
     ledger: &mut [u32],
     out: &mut [u8],
-) -> io::Result<Progress>
+) -> Progress
     requires { ProgressSound s (length line.old) ram.old ledger.old (length out.old) }
-    ensures ok { IfOk result (λ p. ProgressSound p (length line.old) ram.new ledger.new (length out.old)) }
-    ensures err { OnErr result (LeavesMachine ram.new ledger.new) }
+    ensures { ProgressSound result (length line.old) ram.new ledger.new (length out.old) }
 {
     let mut t = s;
     let mut i = 0;
     while i < chunk.len() {
-        t = take_byte(output, t, chunk[i], line, ram, ledger, out)?;
+        t = take_byte(output, t, chunk[i], line, ram, ledger, out);
         i += 1;
     }
-    Ok(t)
+    t
 }
 
-// Reads the input to its end. A proved loop has to end, and nothing says that the input does: the turns are counted down from a number
+// Reads the input to its end; a read that fails is one. A proved loop has to end, and nothing says that the input does: the turns are counted down from a number
 // that no run uses up.
 fn read_input<R: Read, W: Write>(
     input: &mut R,
@@ -153,10 +147,9 @@ fn read_input<R: Read, W: Write>(
     ram: &mut [u8],
     ledger: &mut [u32],
     out: &mut [u8],
-) -> io::Result<Progress>
+) -> Progress
     requires { Room (length ram.old) (length out.old) }
-    ensures ok { IfOk result (λ p. ProgressSound p (length line.old) ram.new ledger.new (length out.old)) }
-    ensures err { OnErr result (LeavesMachine ram.new ledger.new) }
+    ensures { ProgressSound result (length line.old) ram.new ledger.new (length out.old) }
 {
     let mut s = Progress {
         machine: script_machine::no_machine(),
@@ -166,14 +159,14 @@ fn read_input<R: Read, W: Write>(
     let mut turns = u64::MAX;
     while 0 < turns {
         let mut chunk = [0u8; CHUNK_BYTES];
-        let got = input.read(&mut chunk)?;
+        let got = input.read(&mut chunk).unwrap_or(0);
         if got == 0 {
-            return Ok(s);
+            return s;
         }
-        s = take_bytes(output, s, &chunk[..got], line, ram, ledger, out)?;
+        s = take_bytes(output, s, &chunk[..got], line, ram, ledger, out);
         turns -= 1;
     }
-    Ok(s)
+    s
 }
 
 // The last line may have no line end; where there is none, nothing is printed for it.
@@ -184,11 +177,11 @@ fn finish<W: Write>(
     ram: &mut [u8],
     ledger: &mut [u32],
     out: &mut [u8],
-) -> io::Result<()>
+)
     requires { ProgressSound s (length line.now) ram.old ledger.old (length out.old) }
 {
-    let t = end_line(output, s, line, ram, ledger, out)?;
-    write_out(output, out, t.pending)
+    let t = end_line(output, s, line, ram, ledger, out);
+    write_out(output, out, t.pending);
 }
 
 // Runs the script on lent memory.
@@ -198,13 +191,13 @@ fn run<R: Read, W: Write>(
     ram: &mut [u8; RAM_BYTES],
     ledger: &mut [u32; LEDGER_WORDS],
     out: &mut [u8; OUT_BYTES],
-) -> io::Result<()> {
+) {
     let mut line = [0u8; LINE_BYTES];
-    let s = read_input(input, output, &mut line, ram, ledger, out)?;
-    finish(output, s, &line, ram, ledger, out)
+    let s = read_input(input, output, &mut line, ram, ledger, out);
+    finish(output, s, &line, ram, ledger, out);
 }
 
-fn main(rt: HostRuntime) -> io::Result<()> {
+fn main(rt: HostRuntime) {
     let mut ram = [0u8; RAM_BYTES];
     let mut ledger = [0u32; LEDGER_WORDS];
     let mut out = [0u8; OUT_BYTES];
@@ -214,5 +207,5 @@ fn main(rt: HostRuntime) -> io::Result<()> {
         &mut ram,
         &mut ledger,
         &mut out,
-    )
+    );
 }
