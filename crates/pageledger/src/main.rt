@@ -138,8 +138,8 @@ fn take_bytes<W: Write>(
     t
 }
 
-// Reads the input to its end; a read that fails is one. A proved loop has to end, and nothing says that the input does: the turns are counted down from a number
-// that no run uses up.
+// Reads the input to its end, or until a read fails. A proved loop has to end, and nothing says that the input does: the turns are counted
+// down from a number that no run uses up.
 fn read_input<R: Read, W: Write>(
     input: &mut R,
     output: &mut W,
