@@ -60,10 +60,10 @@ module _ (F G w : ℕ → ℕ → ℕ) (g : ℕ) where
   unfolding state_in with_root_at remade size_in first_in kind_in exists_in dirty_in root_in upd2 upd
   state_root t = refl
 
-  -- the number of free frames is no part of the state
-  pub state_free : state_in F (upd2 G FREE_COUNT HEADER g) w ≡ state_in F G w
-  unfolding state_in size_in first_in kind_in exists_in dirty_in root_in upd2 upd
-  state_free = refl
+-- the number of free frames is no part of the state
+pub state_free : (F G w : ℕ → ℕ → ℕ) (v : ℕ) → state_in F (upd2 G FREE_COUNT HEADER v) w ≡ state_in F G w
+unfolding state_in size_in first_in kind_in exists_in dirty_in root_in upd2 upd
+state_free F G w v = refl
 
 pub guest_range : (g : ℕ) → is_guest g ≡ true → (0 < g) × (g ≤ guests)
 guest_range g e = let a = and_true (ltb 0 g) (leb g guests) e in (ltb-true 0 g a.0, leb-true g guests a.1)

@@ -12,7 +12,9 @@ use Rattle.model.specs.Changes.{drained, released}
 use Rattle.model.specs.State.{NOTHING, WRITING, kind_number, MONITOR, FREE, TABLE, DRAINING_TABLE, PAGE, DRAINING_PAGE}
 use Rattle.ledger.specs.Columns.{KIND, GUEST, HEIGHT, RANGE}
 use Rattle.ledger.specs.Layout.{kind_at, size_in, kind_in}
-use Rattle.ledger.specs.Kinds.{guest_in, kind_for, known_share}
+use Rattle.ledger.specs.Kinds.{guest_in, kind_code, known_kind, kind_for, known_share}
+use Rattle.ledger.specs.declared.kinds.Kind.{Kind}
+use Rattle.ledger.specs.declared.kinds.Kind.TheVariants.{Monitor, Free, Table, DrainingTable, Page, DrainingPage}
 
 -- a frame that is there
 pub kind_here : (F G : ℕ → ℕ → ℕ) (f : ℕ) → f < size_in G → kind_in F G f ≡ kind_at (F KIND f) (F GUEST f) (F HEIGHT f) (F RANGE f)
@@ -116,6 +118,36 @@ module _ (F G : ℕ → ℕ → ℕ) (f : ℕ) (low : f < size_in G) where
   pub guest_here : (k : ℕ) → k ≡ kind_number (kind_in F G f) → TABLE ≤ k → F GUEST f ≡ guest_in (kind_in F G f)
   guest_here k e l = rw (kind_here F G f low) (sym (guest_is_in (F GUEST f) (F HEIGHT f) (F RANGE f) (F KIND f)
       (rw (e, kind_here F G f low) at l)))
+
+-- the kind of a number
+abbrev named : ℕ → Kind
+named n =
+    cond (eqb n FREE) Free (
+    cond (eqb n TABLE) Table (
+    cond (eqb n DRAINING_TABLE) DrainingTable (
+    cond (eqb n PAGE) Page (
+    cond (eqb n DRAINING_PAGE) DrainingPage (
+    Monitor)))))
+
+named_code : (k : Kind) → named (kind_code k) ≡ k
+named_code Monitor = refl
+named_code Free = refl
+named_code Table = refl
+named_code DrainingTable = refl
+named_code Page = refl
+named_code DrainingPage = refl
+
+-- each kind has its own number
+pub code_apart : (k j : Kind) → (k ≡ j → ⊥) → kind_code k ≡ kind_code j → ⊥
+code_apart k j ne e = ne (sym (named_code k) ∙ ap named e ∙ named_code j)
+
+pub known_code : (k : Kind) → known_kind (kind_code k) ≡ kind_code k
+known_code Monitor = refl
+known_code Free = refl
+known_code Table = refl
+known_code DrainingTable = refl
+known_code Page = refl
+known_code DrainingPage = refl
 
 -- what of a stored number Shared keeps
 pub known_nothing : (n : ℕ) → eqb (known_share n) NOTHING ≡ eqb n NOTHING
