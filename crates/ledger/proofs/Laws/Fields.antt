@@ -30,8 +30,8 @@ yes_stored f g b = upd_map (λ x. eqb x YES) f g (from_bool b) ∙ ap (upd (λ x
 module _ (F G w : ℕ → ℕ → ℕ) (g : ℕ) where
   pub state_existence : (b : Bool) → state_in F (upd2 G EXISTS g (from_bool b)) w ≡ with_existence g b (state_in F G w)
   unfolding state_in with_existence remade size_in first_in kind_in exists_in dirty_in root_in upd2 upd
-  state_existence b = ap (λ (e : ℕ → Bool). remade (state_in F G w) (kind_in F G) (per_guest share_part F) (per_guest count_part F) e (G ROOT)
-      (dirty_in G) w) (yes_stored (G EXISTS) g b)
+  state_existence b = ap (λ (e : ℕ → Bool). remade (state_in F G w) (kind_in F G) (per_guest share_part F) (per_guest count_part F) e
+      (G ROOT) (dirty_in G) w) (yes_stored (G EXISTS) g b)
 
   pub state_dirt : (b : Bool) → state_in F (upd2 G DIRTY g (from_bool b)) w ≡ with_dirt g b (state_in F G w)
   unfolding state_in with_dirt remade size_in first_in kind_in exists_in dirty_in root_in upd2 upd
