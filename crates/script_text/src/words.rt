@@ -42,7 +42,10 @@ pub fn word_start(s: &[u8], from: usize) -> usize
     ensures { (result ≤ length s.now) × (drop result s.now ≡ after_blanks (drop from s.now)) }
 {
     let rest = &s[from..];
-    from + rest.iter().position(|&c| !is_blank(c)).unwrap_or(rest.len())
+    from + rest
+        .iter()
+        .position(|&c| !is_blank(c))
+        .unwrap_or(rest.len())
 }
 
 // The first place from `from` on that is a blank, or the end.
