@@ -1,9 +1,10 @@
 // A line's first word: which command it asks for, what arguments follow, and the command that they make.
-ghost use Rattle.std.specs.Prelude.{◌≡◌};
-ghost use Rattle.script_language.specs.Names.{first_words, word_index, operation_word, first_word, operation_numbers, command_numbers, access_and_level, argument_at, operation_with, command_with};
+ghost use Rattle.std.specs.Prelude.{◌≡◌, ◌≤◌, length};
+ghost use Rattle.script_language.specs.Names.{first_word, forms_of, operation_numbers, command_numbers, access_and_level, most_arguments, argument_at, operation_with, command_with};
 
 use crate::{Command, MOST_ARGUMENTS, Operation, Question};
-use script_text::words::{same_text, word_end, word_start};
+use CommandName::Operating;
+use Form::{Access, Level, Number};
 
 // A command by its first word.
 #[derive(Clone, Copy)]
@@ -34,130 +35,145 @@ pub enum OperationName {
     Invalidating,
 }
 
-// What a line's first word is.
-#[derive(Drop)]
-pub enum FirstWord {
-    Known(CommandName),
-    Unknown,
+// What an argument is: a number, a kind of access, a level.
+#[derive(Clone, Copy, Debug, PartialEq, Eq)]
+pub enum Form {
+    Number,
+    Access,
+    Level,
 }
 
-// Which of the first n words of `names` is w; n where none is.
-pub fn word_index(w: &[u8], names: &[u8], n: usize) -> usize
-    ensures { result ≡ word_index w.now (first_words n names.now) }
-{
-    let mut at = 0;
-    let mut k = 0;
-    while k < n {
-        let from = word_start(names, at);
-        at = word_end(names, from);
-        if same_text(w, &names[from..at]) {
-            return k;
-        }
-        k += 1;
-    }
-    n
+// A command's word, and what it asks for.
+#[derive(Clone, Copy)]
+pub struct Entry {
+    pub word: &'static [u8],
+    pub name: CommandName,
 }
 
-// A first word that names an operation.
-fn operation_word(w: &[u8]) -> FirstWord
-    ensures { result ≡ operation_word w.now }
-{
-    let k = word_index(
-        w,
-        b"create give map unmap share unshare take destroy invalidated",
-        9,
-    );
-    match k {
-        0 => FirstWord::Known(CommandName::Operating(OperationName::Creating)),
-        1 => FirstWord::Known(CommandName::Operating(OperationName::Giving)),
-        2 => FirstWord::Known(CommandName::Operating(OperationName::Mapping)),
-        3 => FirstWord::Known(CommandName::Operating(OperationName::Unmapping)),
-        4 => FirstWord::Known(CommandName::Operating(OperationName::Sharing)),
-        5 => FirstWord::Known(CommandName::Operating(OperationName::Unsharing)),
-        6 => FirstWord::Known(CommandName::Operating(OperationName::Taking)),
-        7 => FirstWord::Known(CommandName::Operating(OperationName::Destroying)),
-        8 => FirstWord::Known(CommandName::Operating(OperationName::Invalidating)),
-        _ => FirstWord::Unknown,
-    }
-}
+pub const COMMANDS: [Entry; 18] = [
+    Entry {
+        word: b"setup",
+        name: CommandName::Setup,
+    },
+    Entry {
+        word: b"word",
+        name: CommandName::Word,
+    },
+    Entry {
+        word: b"peek",
+        name: CommandName::Peek,
+    },
+    Entry {
+        word: b"stage2",
+        name: CommandName::Stage2,
+    },
+    Entry {
+        word: b"walk",
+        name: CommandName::Walk,
+    },
+    Entry {
+        word: b"translate",
+        name: CommandName::Translation,
+    },
+    Entry {
+        word: b"frame",
+        name: CommandName::OneFrame,
+    },
+    Entry {
+        word: b"guest",
+        name: CommandName::OneGuest,
+    },
+    Entry {
+        word: b"ledger",
+        name: CommandName::WholeLedger,
+    },
+    Entry {
+        word: b"create",
+        name: Operating(OperationName::Creating),
+    },
+    Entry {
+        word: b"give",
+        name: Operating(OperationName::Giving),
+    },
+    Entry {
+        word: b"map",
+        name: Operating(OperationName::Mapping),
+    },
+    Entry {
+        word: b"unmap",
+        name: Operating(OperationName::Unmapping),
+    },
+    Entry {
+        word: b"share",
+        name: Operating(OperationName::Sharing),
+    },
+    Entry {
+        word: b"unshare",
+        name: Operating(OperationName::Unsharing),
+    },
+    Entry {
+        word: b"take",
+        name: Operating(OperationName::Taking),
+    },
+    Entry {
+        word: b"destroy",
+        name: Operating(OperationName::Destroying),
+    },
+    Entry {
+        word: b"invalidated",
+        name: Operating(OperationName::Invalidating),
+    },
+];
 
-// A first word, which names a command or an operation.
-pub fn first_word(w: &[u8]) -> FirstWord
+// The command or operation that a line's first word names.
+pub fn first_word(w: &[u8]) -> Option<CommandName>
     ensures { result ≡ first_word w.now }
 {
-    let k = word_index(
-        w,
-        b"setup word peek stage2 walk translate frame guest ledger",
-        9,
-    );
-    match k {
-        0 => FirstWord::Known(CommandName::Setup),
-        1 => FirstWord::Known(CommandName::Word),
-        2 => FirstWord::Known(CommandName::Peek),
-        3 => FirstWord::Known(CommandName::Stage2),
-        4 => FirstWord::Known(CommandName::Walk),
-        5 => FirstWord::Known(CommandName::Translation),
-        6 => FirstWord::Known(CommandName::OneFrame),
-        7 => FirstWord::Known(CommandName::OneGuest),
-        8 => FirstWord::Known(CommandName::WholeLedger),
-        _ => operation_word(w),
-    }
+    let entry = COMMANDS.iter().find(|entry| w == entry.word)?;
+    Some(entry.name)
 }
 
-// How many numbers follow an operation's word.
-fn operation_numbers(d: OperationName) -> usize
-    ensures { result ≡ operation_numbers d }
+// What follows an operation's word.
+#[tactic(auto, unfolding(crate::specs::Names::operation_numbers, crate::specs::Names::forms_of))]
+fn operation_forms(d: OperationName) -> &'static [Form]
+    ensures table { result.now ≡ forms_of (operation_numbers d) 0 }
+    ensures few { length result.now ≤ most_arguments }
 {
     match d {
-        OperationName::Creating => 1,
-        OperationName::Giving => 2,
-        OperationName::Mapping => 4,
-        OperationName::Unmapping => 2,
-        OperationName::Sharing => 4,
-        OperationName::Unsharing => 3,
-        OperationName::Taking => 2,
-        OperationName::Destroying => 1,
-        OperationName::Invalidating => 1,
+        OperationName::Creating => &[Number],
+        OperationName::Giving => &[Number, Number],
+        OperationName::Mapping => &[Number, Number, Number, Number],
+        OperationName::Unmapping => &[Number, Number],
+        OperationName::Sharing => &[Number, Number, Number, Number],
+        OperationName::Unsharing => &[Number, Number, Number],
+        OperationName::Taking => &[Number, Number],
+        OperationName::Destroying => &[Number],
+        OperationName::Invalidating => &[Number],
     }
 }
 
-// How many numbers follow a command's word.
-pub fn command_numbers(v: CommandName) -> usize
-    ensures { result ≡ command_numbers v }
+// What follows a command's word.
+#[tactic(auto, unfolding(crate::specs::Names::command_numbers, crate::specs::Names::access_and_level, crate::specs::Names::forms_of))]
+pub fn forms(v: CommandName) -> &'static [Form]
+    ensures table { result.now ≡ forms_of (command_numbers v) (access_and_level v) }
+    ensures few { length result.now ≤ most_arguments }
 {
     match v {
-        CommandName::Setup => 3,
-        CommandName::Word => 2,
-        CommandName::Peek => 1,
-        CommandName::Stage2 => 2,
-        CommandName::Walk => 3,
-        CommandName::Translation => 2,
-        CommandName::OneFrame => 1,
-        CommandName::OneGuest => 1,
-        CommandName::WholeLedger => 0,
-        CommandName::Operating(d) => operation_numbers(d),
-    }
-}
-
-// How many of a kind of access and a level follow the numbers.
-pub fn access_and_level(v: CommandName) -> usize
-    ensures { result ≡ access_and_level v }
-{
-    match v {
-        CommandName::Setup => 0,
-        CommandName::Word => 0,
-        CommandName::Peek => 0,
-        CommandName::Stage2 => 1,
-        CommandName::Walk => 2,
-        CommandName::Translation => 1,
-        CommandName::OneFrame => 0,
-        CommandName::OneGuest => 0,
-        CommandName::WholeLedger => 0,
-        CommandName::Operating(_) => 0,
+        CommandName::Setup => &[Number, Number, Number],
+        CommandName::Word => &[Number, Number],
+        CommandName::Peek => &[Number],
+        CommandName::Stage2 => &[Number, Number, Access],
+        CommandName::Walk => &[Number, Number, Number, Access, Level],
+        CommandName::Translation => &[Number, Number, Access],
+        CommandName::OneFrame => &[Number],
+        CommandName::OneGuest => &[Number],
+        CommandName::WholeLedger => &[],
+        Operating(d) => operation_forms(d),
     }
 }
 
 // An operation with its arguments, in the script's order.
+#[tactic(auto, unfolding(crate::specs::Names::operation_with))]
 fn operation_with(d: OperationName, a: [u64; MOST_ARGUMENTS]) -> Operation
     ensures { result ≡ operation_with d (argument_at a) }
 {
@@ -198,6 +214,7 @@ fn operation_with(d: OperationName, a: [u64; MOST_ARGUMENTS]) -> Operation
 }
 
 // A command with its arguments, in the script's order.
+#[tactic(auto, unfolding(crate::specs::Names::command_with))]
 pub fn command_with(v: CommandName, a: [u64; MOST_ARGUMENTS]) -> Command
     ensures { result ≡ command_with v (argument_at a) }
 {

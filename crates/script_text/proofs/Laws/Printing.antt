@@ -7,13 +7,11 @@ use mathlib.Core.List.{List, [], ◌∷◌, ◌++◌, append_assoc, append-nil}
 use Rattle.std.proofs.Common.{Option, Some, None, unwrap_or, nat_eq, nat_lt}
 use Rattle.std.specs.List.{position, position_or_len}
 use Rattle.std.proofs.lemmas.Bool.Decides.{nat_tests}
-use native.Mathlib.Numerals.{add-one}
-use native.Mathlib.Nat.{add-zero, not-suc-le-zero}
+use native.Mathlib.Nat.{not-suc-le-zero}
 use native.Mathlib.Omega.{arith}
 use lib.Dec.{eqb}
-use lib.ListN.{length, get_or, set, take, drop, length-append, length-drop}
-use lib.Seq.{drop-cons, take-suc, take-suc-set, take_all, drop-length, set_split, drop_at, length-take-le}
-use borrow.Author.Tests.{eq-eqb, ne_eqb}
+use lib.ListN.{length, set, take, drop, length-append, length-drop}
+use lib.Seq.{take_all, drop-length, set_split, drop_at, length-take-le}
 use Rattle.script_text.specs.Digits.{digit_character, digits, without_zeros}
 use Rattle.script_text.specs.Wrote.{Wrote}
 

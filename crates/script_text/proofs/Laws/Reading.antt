@@ -6,7 +6,7 @@ use native.Mathlib.Nat.{le-mul_of_pos_right}
 use native.Mathlib.Decide.{dec_lt}
 use lib.Dec.{ltb, leb}
 use borrow.Author.Tests.{lt-ltb, lt-leb, le-ltb, le-leb}
-use Rattle.script_text.specs.declared.numbers.NumberError.TheVariants.{TooLarge, NoNumber}
+use Rattle.script_text.specs.declared.numbers.NumberError.TheVariants.{NoNumber}
 use Rattle.script_text.specs.Number.{Read, digit_value, value_of_first, all_digits, value_or_too_large, numeral_of_first, add_digit, add_character}
 
 -- the library's digit is the definition's

@@ -1,47 +1,26 @@
--- By the word's place in the text.
-use mathlib.Core.Path.{◌∙◌}
-use Rattle.script_language.specs.Names.{command_table, operation_word, first_word}
-use Rattle.script_language.proofs.Laws.Names.{command_words, at_place, no_place}
+use Rattle.std.proofs.Common.{rules, ◌∙◌, sym, refl, ap, Bor, List, map, Option, ◌≡◌}
+use Rattle.std.specs.Option.{option_map}
+use Rattle.script_language.specs.declared.names.Entry.{Entry as Row}
+use Rattle.script_language.specs.declared.names.CommandName.{CommandName}
+use Rattle.script_language.specs.Names.{first_word}
+use borrow.Author.Tests.{tests}
+use Rattle.std.proofs.lemmas.Iterator.{YieldsList-from_slice}
+use Rattle.std.proofs.lemmas.Iterator.Search.{find_from_yields_List}
+use Rattle.script_language.proofs.Laws.Names.{is_word, entry_of, looked_up}
+use Rattle.script_language.proofs.names.first_word.Goals.{After-find}
 use Rattle.script_language.proofs.names.first_word.Goals as goal
 
-pub returns-in-0 : goal.returns-in-0
-unfolding first_word
-returns-in-0 c = (at_place command_table c.args.w.now (operation_word c.args.w.now) command_words c.word_index-k.ensures) c.in-0.is
+abbrev named : Option (Bor Row) → Option CommandName
+named r = option_map (λ (x : Bor Row). x.now.name) r
 
-pub returns-in-1 : goal.returns-in-1
-unfolding first_word
-returns-in-1 c = (at_place command_table c.args.w.now (operation_word c.args.w.now) command_words c.word_index-k.ensures) c.in-1.is
+looked : (c : After-find) → named c.find.result ≡ first_word c.args.w.now
+looked c =
+    looked_up c.args.w.now c.iter.result.rest.now c.find.result (ap (λ (l : List Row). map entry_of l) c.iter.ensures.rest) (
+    find_from_yields_List (is_word c.args.w.now) _ _ c.find.result c.find.ensures.ran (YieldsList-from_slice c.iter.result.rest.now refl) (λ x b q k. search (rules, tests)))
 
-pub returns-in-2 : goal.returns-in-2
-unfolding first_word
-returns-in-2 c = (at_place command_table c.args.w.now (operation_word c.args.w.now) command_words c.word_index-k.ensures) c.in-2.is
+pub returns-in_err-entry : goal.returns-in_err-entry
+returns-in_err-entry c =
+    c.from_residual.ensures ∙ sym (ap named c.in_err-entry.was) ∙ looked (goal.at.returns-in_err-entry c).After-find
 
-pub returns-in-3 : goal.returns-in-3
-unfolding first_word
-returns-in-3 c = (at_place command_table c.args.w.now (operation_word c.args.w.now) command_words c.word_index-k.ensures) c.in-3.is
-
-pub returns-in-4 : goal.returns-in-4
-unfolding first_word
-returns-in-4 c = (at_place command_table c.args.w.now (operation_word c.args.w.now) command_words c.word_index-k.ensures) c.in-4.is
-
-pub returns-in-5 : goal.returns-in-5
-unfolding first_word
-returns-in-5 c = (at_place command_table c.args.w.now (operation_word c.args.w.now) command_words c.word_index-k.ensures) c.in-5.is
-
-pub returns-in-6 : goal.returns-in-6
-unfolding first_word
-returns-in-6 c = (at_place command_table c.args.w.now (operation_word c.args.w.now) command_words c.word_index-k.ensures) c.in-6.is
-
-pub returns-in-7 : goal.returns-in-7
-unfolding first_word
-returns-in-7 c = (at_place command_table c.args.w.now (operation_word c.args.w.now) command_words c.word_index-k.ensures) c.in-7.is
-
-pub returns-in-8 : goal.returns-in-8
-unfolding first_word
-returns-in-8 c = (at_place command_table c.args.w.now (operation_word c.args.w.now) command_words c.word_index-k.ensures) c.in-8.is
-
-pub returns-in_default : goal.returns-in_default
-unfolding first_word
-returns-in_default c = c.operation_word.ensures
-    ∙ (no_place command_table c.args.w.now (operation_word c.args.w.now) command_words c.word_index-k.ensures)
-    c.in_default.in_default-own.rest
+pub returns : goal.returns
+returns c = sym (ap named c.in_ok-entry.was) ∙ looked (goal.at.returns c).After-find

@@ -1,4 +1,4 @@
-use Rattle.std.proofs.Common.{rules, drop, ◌∙◌}
+use Rattle.std.proofs.Common.{rules, ◌∙◌}
 use borrow.Author.Tests.{tests}
 use Rattle.std.proofs.lemmas.Bool.Decides.{Decides-eqb}
 use Rattle.std.proofs.lemmas.Iterator.{YieldsList-from_slice}

@@ -1,6 +1,5 @@
 use Rattle.std.proofs.Common.{rules, drop, ◌∙◌}
 use borrow.Author.Tests.{tests}
-use mathlib.Core.Bool.{not}
 use Rattle.std.proofs.lemmas.Iterator.{YieldsList-from_slice}
 use Rattle.std.proofs.lemmas.Iterator.Search.{position_from_yields_List}
 use Rattle.script_text.specs.Words.{is_blank}
