@@ -1,8 +1,9 @@
 // The words after the first: numbers, a kind of access, a level.
-ghost use Rattle.std.specs.Prelude.{◌≡◌, map};
-ghost use Rattle.script_language.specs.Commands.{named_argument, read_argument, values_for, read_from};
+ghost use Rattle.std.specs.Prelude.{◌≡◌, ◌≤◌, length, map};
+ghost use Rattle.script_language.specs.Names.{most_arguments};
+ghost use Rattle.script_language.specs.Commands.{named_argument, read_argument, values_of, read_from};
 
-use crate::names::{CommandName, Form, command_with, forms};
+use crate::names::{CommandName, Form, command_with};
 use crate::{Command, MOST_ARGUMENTS, Reason};
 use script_text::numbers::number;
 use script_text::words::{word_end, word_start};
@@ -33,12 +34,13 @@ fn read_argument(form: Form, w: &[u8]) -> Result<u64, Reason>
 }
 
 // The words after the first, read as the command wants them.
-pub fn read_arguments(name: CommandName, s: &[u8]) -> Result<Command, Reason>
-    ensures { result ≡ read_from name (values_for name s.now) }
+pub fn read_arguments(name: CommandName, forms: &[Form], s: &[u8]) -> Result<Command, Reason>
+    requires { length forms.now ≤ most_arguments }
+    ensures { result ≡ read_from name (values_of forms.now s.now) }
 {
     let mut arguments = [0; MOST_ARGUMENTS];
     let mut at = 0;
-    for (i, &form) in forms(name).iter().enumerate() {
+    for (i, &form) in forms.iter().enumerate() {
         let from = word_start(s, at);
         if from == s.len() {
             return Err(Reason::TooFewWords);

@@ -5,15 +5,13 @@ ghost use Rattle.std.specs.Prelude.{◌≡◌, ◌+◌, ◌≤◌, ◌<◌, ◌+
 ghost use Rattle.script_text.specs.Digits.{digit_character, digits as digits_of, without_zeros, most_digits, word_digits, numeral_of, decimal_of, hex_of, sixteen_digits_of};
 ghost use Rattle.script_text.specs.Wrote.{Wrote};
 
+use crate::{DECIMAL, HEXADECIMAL};
+
 // The digits of 2^64 - 1 in base 10.
 const MOST_DIGITS: usize = 20;
 
 // The digits of a 64-bit word in base 16.
 const WORD_DIGITS: usize = 16;
-
-const DECIMAL: u64 = 10;
-
-const HEXADECIMAL: u64 = 16;
 
 // Puts text at `at`, and answers the place after it.
 pub fn put(out: &mut [u8], at: usize, text: &[u8]) -> usize

@@ -2,16 +2,14 @@
 ghost use Rattle.std.specs.Prelude.{◌≡◌, ◌+◌, ◌*◌, ◌≤◌};
 ghost use Rattle.script_text.specs.Number.{value_or_too_large, add_character, read_numeral, number_of};
 
+use crate::{DECIMAL, HEXADECIMAL};
+
 // Why a word is no number below 2^64.
 #[derive(Clone, Copy, Debug, PartialEq, Eq)]
 pub enum NumberError {
     TooLarge,
     NoNumber,
 }
-
-const DECIMAL: u32 = 10;
-
-const HEXADECIMAL: u32 = 16;
 
 // The number v * base + d, where that fits.
 fn with_digit(v: u64, base: u32, d: u32) -> Result<u64, NumberError>

@@ -12,14 +12,14 @@ word_start-from-requires c = c.loop-i.invariant.inside
 
 pub returns-then-from-s : goal.returns-then-from-s
 returns-then-from-s c =
-    rw (← c.forms-form-items.ensures.table) (
+    (
     too_few c.args.name c.loop-i.invariant c.loop-i-test.true c.if-from-s.true c.word_start-from.ensures.1)
 
 pub returns-in_err-arguments : goal.returns-in_err-arguments
 returns-in_err-arguments c =
     let e = wrong_word c.args.name c.loop-i.invariant c.loop-i-test.true c.word_start-from.ensures.0 c.if-from-s.false
     c.word_start-from.ensures.1 c.word_end-at.ensures c.read_argument.ensures c.in_err-arguments.was in
-    rw (← c.forms-form-items.ensures.table) (grind (arith, common_steps, e))
+    (grind (arith, common_steps, e))
 
 pub loop-i-preserved : goal.loop-i-preserved
 loop-i-preserved c =
@@ -28,10 +28,10 @@ loop-i-preserved c =
 
 pub returns-then-word_start-s : goal.returns-then-word_start-s
 returns-then-word_start-s c =
-    rw (← c.forms-form-items.ensures.table) (
+    (
     too_many c.args.name c.loop-i.invariant c.loop-i-test.false c.word_start.ensures.0 (λ z. omega arith) c.word_start.ensures.1)
 
 pub returns : goal.returns
 returns c =
-    rw (← c.forms-form-items.ensures.table, c.command_with.ensures) (
+    rw c.command_with.ensures (
     all_read c.args.name c.loop-i.invariant c.loop-i-test.false (omega arith) c.word_start.ensures.1)

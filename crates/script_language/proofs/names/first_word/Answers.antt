@@ -1,26 +1,34 @@
-use Rattle.std.proofs.Common.{rules, ◌∙◌, sym, refl, ap, Bor, List, map, Option, ◌≡◌}
-use Rattle.std.specs.Option.{option_map}
-use Rattle.script_language.specs.declared.names.Entry.{Entry as Row}
-use Rattle.script_language.specs.declared.names.CommandName.{CommandName}
-use Rattle.script_language.specs.Names.{first_word}
+-- The table of the code is the definition's.
+use Rattle.std.proofs.Common.{rules, ◌∙◌, sym, refl, ap, Bor, List, map, Option, ◌≡◌, arith}
 use borrow.Author.Tests.{tests}
+use Rattle.std.specs.List.{find}
+use Rattle.std.specs.Option.{option_map}
 use Rattle.std.proofs.lemmas.Iterator.{YieldsList-from_slice}
 use Rattle.std.proofs.lemmas.Iterator.Search.{find_from_yields_List}
-use Rattle.script_language.proofs.Laws.Names.{is_word, entry_of, looked_up}
+use Rattle.script_language.specs.declared.names.CommandName.{CommandName}
+use Rattle.script_language.specs.Names.{first_word, command_numbers, access_and_level, forms_of, operation_numbers}
+use Rattle.script_language.proofs.Laws.Names.{Row, IsTable, is_word, no_row, row_names, row_forms, row_few}
 use Rattle.script_language.proofs.names.first_word.Goals.{After-find}
 use Rattle.script_language.proofs.names.first_word.Goals as goal
 
-abbrev named : Option (Bor Row) → Option CommandName
-named r = option_map (λ (x : Bor Row). x.now.name) r
-
-looked : (c : After-find) → named c.find.result ≡ first_word c.args.w.now
+looked : (c : After-find) → option_map (λ (x : Bor Row). x.now) c.find.result ≡ find (is_word c.args.w.now) c.iter.result.rest.now
 looked c =
-    looked_up c.args.w.now c.iter.result.rest.now c.find.result (ap (λ (l : List Row). map entry_of l) c.iter.ensures.rest) (
-    find_from_yields_List (is_word c.args.w.now) _ _ c.find.result c.find.ensures.ran (YieldsList-from_slice c.iter.result.rest.now refl) (λ x b q k. search (rules, tests)))
+    find_from_yields_List (is_word c.args.w.now) _ _ c.find.result c.find.ensures.ran (YieldsList-from_slice c.iter.result.rest.now refl) (λ x b q k. search (rules, tests))
 
-pub returns-in_err-entry : goal.returns-in_err-entry
-returns-in_err-entry c =
-    c.from_residual.ensures ∙ sym (ap named c.in_err-entry.was) ∙ looked (goal.at.returns-in_err-entry c).After-find
+table : (c : After-find) → IsTable c.iter.result.rest.now
+unfolding forms_of command_numbers access_and_level operation_numbers
+table c = rw c.iter.ensures.rest (record { entries = refl; forms = refl; few = refl })
 
-pub returns : goal.returns
-returns c = sym (ap named c.in_ok-entry.was) ∙ looked (goal.at.returns c).After-find
+pub returns-in_err-name-clause-name : goal.returns-in_err-name-clause-name
+returns-in_err-name-clause-name c =
+    let s = (goal.at.returns-in_err-name-clause-name c).After-find in
+    rw c.from_residual.ensures (no_row _ _ (table s) _ (looked s) c.in_err-name.was)
+
+pub returns-clause-name : goal.returns-clause-name
+returns-clause-name c = let s = (goal.at.returns-clause-name c).After-find in row_names _ _ (table s) _ (looked s) c.in_ok-name.was
+
+pub returns-clause-forms : goal.returns-clause-forms
+returns-clause-forms c = let s = (goal.at.returns-clause-forms c).After-find in row_forms _ _ (table s) _ (looked s) c.in_ok-name.was
+
+pub returns-clause-few : goal.returns-clause-few
+returns-clause-few c = let s = (goal.at.returns-clause-few c).After-find in row_few _ _ (table s) _ (looked s) c.in_ok-name.was
