@@ -7,6 +7,6 @@ pub mod numbers;
 pub mod words;
 
 // The bases of the numbers that are read and put.
-const DECIMAL: u32 = 10;
+const DECIMAL: u64 = 10;
 
-const HEXADECIMAL: u32 = 16;
+const HEXADECIMAL: u64 = 16;

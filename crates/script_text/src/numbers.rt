@@ -12,26 +12,28 @@ pub enum NumberError {
 }
 
 // The number v * base + d, where that fits.
-fn with_digit(v: u64, base: u32, d: u32) -> Result<u64, NumberError>
+fn with_digit(v: u64, base: u64, d: u32) -> Result<u64, NumberError>
     ensures { result ≡ value_or_too_large (v * base + d) }
 {
-    v.checked_mul(u64::from(base))
+    v.checked_mul(base)
         .and_then(|more| more.checked_add(u64::from(d)))
         .ok_or(NumberError::TooLarge)
 }
 
 // What was read, and one character more.
-fn add_character(read: Result<u64, NumberError>, base: u32, c: u8) -> Result<u64, NumberError>
+fn add_character(read: Result<u64, NumberError>, base: u64, c: u8) -> Result<u64, NumberError>
     requires { (2 ≤ base) × (base ≤ 16) }
     ensures { result ≡ add_character base c read }
 {
-    let d = char::from(c).to_digit(base).ok_or(NumberError::NoNumber)?;
+    let d = char::from(c)
+        .to_digit(base as u32)
+        .ok_or(NumberError::NoNumber)?;
     with_digit(read?, base, d)
 }
 
 // The number that s spells in a base, digit by digit.
 #[tactic(auto, unfolding(crate::specs::Number::read_numeral))]
-fn read_numeral(s: &[u8], base: u32) -> Result<u64, NumberError>
+fn read_numeral(s: &[u8], base: u64) -> Result<u64, NumberError>
     requires { (2 ≤ base) × (base ≤ 16) }
     ensures { result ≡ read_numeral base s.now }
 {
