@@ -1,14 +1,8 @@
 -- The digits from i on are there, and those before it are what is left of n.
 use Rattle.std.proofs.Common.{arith}
-use lib.ListN.{length-replicate, length-set}
-use Rattle.script_text.proofs.Laws.Printing.{spell_none, spell_more, spell_all}
+use lib.ListN.{length-set}
+use Rattle.script_text.proofs.Laws.Printing.{spell_more, spell_all}
 use Rattle.script_text.proofs.digits.last_digits.Goals as goal
-
-pub loop-i-init : goal.loop-i-init
-loop-i-init g c = record {
-  whole = length-replicate g.row.N 0;
-  spelled = spell_none _ c.args.base c.args.n (length-replicate g.row.N 0);
-}
 
 pub loop-i-preserved : goal.loop-i-preserved
 loop-i-preserved g c = record {
