@@ -34,6 +34,7 @@ fn read_argument(form: Form, w: &[u8]) -> Result<u64, Reason>
 }
 
 // The words after the first, read as the command wants them.
+#[tactic(auto, using(crate::proofs::Laws::Parsing::readings))]
 pub fn read_arguments(name: CommandName, forms: &[Form], s: &[u8]) -> Result<Command, Reason>
     requires { length forms.now ≤ most_arguments }
     ensures { result ≡ read_from name (values_of forms.now s.now) }

@@ -81,7 +81,7 @@ pub fn put_hex(out: &mut [u8], at: usize, n: u64) -> usize
 }
 
 // Sixteen digits.
-#[tactic(auto, using(crate::proofs::Laws::Printing::wrote_then, crate::proofs::Laws::Printing::digits_wrote), unfolding(crate::specs::Digits::sixteen_digits_of))]
+#[tactic(auto, using(crate::proofs::Laws::Printing::one_after_another), unfolding(crate::specs::Digits::sixteen_digits_of))]
 pub fn put_word(out: &mut [u8], at: usize, n: u64) -> usize
     requires { at + (2 + word_digits) ≤ length out.old }
     ensures { Wrote (2 + word_digits) out.old at out.new result (sixteen_digits_of n) }

@@ -22,7 +22,7 @@ fn with_digit(v: u64, base: u64, d: u32) -> Result<u64, NumberError>
 }
 
 // What was read, and one character more.
-#[tactic(auto, using(crate::proofs::Laws::Reading::digit_read), unfolding(crate::specs::Number::add_character, crate::specs::Number::add_digit))]
+#[tactic(auto, using(crate::proofs::Laws::Reading::digit_read), unfolding(crate::specs::Number::add_character))]
 fn add_character(read: Result<u64, NumberError>, base: u64, c: u8) -> Result<u64, NumberError>
     requires { (2 ≤ base) × (base ≤ 16) }
     ensures { result ≡ add_character base c read }
@@ -34,7 +34,7 @@ fn add_character(read: Result<u64, NumberError>, base: u64, c: u8) -> Result<u64
 }
 
 // The number that s spells in a base, digit by digit.
-#[tactic(auto, using(crate::proofs::Laws::Reading::read_none, crate::proofs::Laws::Reading::read_more), unfolding(crate::specs::Number::read_numeral))]
+#[tactic(auto, using(crate::proofs::Laws::Reading::readings), unfolding(crate::specs::Number::read_numeral))]
 fn read_numeral(s: &[u8], base: u64) -> Result<u64, NumberError>
     requires { (2 ≤ base) × (base ≤ 16) }
     ensures { result ≡ read_numeral base s.now }

@@ -7,7 +7,8 @@ use Rattle.script_text.proofs.digits.last_digits.Goals as goal
 pub loop-i-preserved : goal.loop-i-preserved
 loop-i-preserved g c = record {
   whole = simp length-set c.loop-i.invariant.whole;
-  spelled = rw c.digit_character.ensures (spell_more _ _ _ _ c.loop-i-test.true (omega (arith, c.loop-i.invariant.whole)) c.loop-i.invariant.spelled);
+  spelled = rw c.digit_character.ensures (
+      spell_more _ _ _ _ c.loop-i-test.true (omega (arith, c.loop-i.invariant.whole)) c.loop-i.invariant.spelled);
 }
 
 pub returns : goal.returns
