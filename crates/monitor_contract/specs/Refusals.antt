@@ -1,5 +1,5 @@
 -- Document 03, section 2: the number of each refusal, as the operations' definitions answer it; and of an answer: 0 where nothing is refused.
-use Rattle.std.specs.Prelude.{ℕ, Result, Ok, Err}
+use Rattle.std.specs.Prelude.{◌≡◌, Bool, true, false, ℕ, Result, Ok, Err}
 use Rattle.monitor_contract.specs.declared.refusals.Refusal.{Refusal}
 use Rattle.monitor_contract.specs.declared.refusals.Refusal.TheVariants.{NoGuestNumber, GuestExists, NoFreeFrames, NoFrame, NoGuest, NotFree, NoPageAddress, NoRights, NotItsPage, MappedAlready, NotMapped, WithItself, StillUsed, Dirty}
 
@@ -22,3 +22,8 @@ refusal_number Dirty = 14
 abbrev pub answer_number : {A : Type 0} → Result A Refusal → ℕ
 answer_number (Ok _) = 0
 answer_number (Err refusal) = refusal_number refusal
+
+-- what a test of the code has found: it holds, or it fails and is refused so
+abbrev pub Tested : Bool → Refusal → Result Unit Refusal → Type 0
+Tested b refusal (Ok _) = b ≡ true
+Tested b refusal (Err e) = (e ≡ refusal) × (b ≡ false)

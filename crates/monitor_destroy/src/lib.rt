@@ -14,6 +14,7 @@ ghost use Rattle.monitor_contract.specs.EachFrame.{EachTurned, without};
 ghost use Rattle.monitor_destroy.specs.Destroy.{destroying, none_shared};
 
 use ledger::{frame, guest, header};
+use monitor_contract::checks;
 use monitor_contract::refusals::Refusal;
 
 // Frame f is no page that g shares with somebody, or somebody with g.
@@ -47,9 +48,7 @@ fn check_destroy(ram: &[u8], ledger: &[u32], g: u64) -> Result<(), Refusal>
     requires { Sound ram.now ledger.now }
     ensures { answer_number result ≡ refusal (destroy_of (state_of ram.now ledger.now) g) }
 {
-    if !guest::exists(ledger, g) {
-        return Err(Refusal::NoGuest);
-    }
+    checks::guest_exists(ledger, g)?;
     if !all_unshared(ram, ledger, g) {
         return Err(Refusal::StillUsed);
     }

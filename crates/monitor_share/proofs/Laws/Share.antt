@@ -28,31 +28,6 @@ use Rattle.monitor_contract.specs.LedgerOnly.{Owned}
 use Rattle.monitor_contract.proofs.Laws.LedgerOnly.{changed_so}
 use Rattle.monitor_share.specs.Share.{sharing, unsharing, held_back, extent}
 
-pub extent_low : (w r : ℕ) → r ≡ extent w → r ≤ 2
-extent_low w r e = rw e (go (eqb w 0))
-  where
-    go : (b : Bool) → cond b 1 2 ≤ 2
-    go true = omega arith
-    go false = omega arith
-
-module _ (c : ℕ) (d : Bool) (s : State) where
-  pub held_out : held_back c d ≡ refusal (check (eqb c 0) 13 (check (not d) 14 (done s)))
-  unfolding held_back check
-  held_out = go (eqb c 0) d
-    where
-      go : (a b : Bool) → cond a (cond b 14 0) 13 ≡ refusal (check a 13 (check (not b) 14 (done s)))
-      go true true = refl
-      go true false = refl
-      go false b = refl
-
-  -- share: "13 and 14 apply only where h may write f now and w = 0"
-  pub narrow_out : (b : Bool) → b ≡ true → held_back c d ≡ refusal (check (not b || eqb c 0) 13 (check (not b || not d) 14 (done s)))
-  narrow_out b e = rw e held_out
-
-  pub wide_out : (b : Bool) → b ≡ false → 0 ≡ refusal (check (not b || eqb c 0) 13 (check (not b || not d) 14 (done s)))
-  unfolding check
-  wide_out b e = rw e
-
 module _ {m l : List ℕ} (ok : Sound m l) (g f h : ℕ) where
   abbrev after : ℕ → State
   after how = becomes (state_of m l) f (page g) (word_of m) (upd2 (shared_of l) f h how)
