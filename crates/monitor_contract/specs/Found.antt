@@ -25,7 +25,3 @@ Translates o m l m' l' = (h v : ℕ) → v < page_count → translate (state_of 
 abbrev pub Finds : (g a : ℕ) → Option Page → (ram ledger : List ℕ) → Type 0
 Finds g a o m l = (k : ℕ) → k < 4096 → (w : Access) → (stage_2 m (base_of l) (base_of l + 4096 * root_of l g) (access w) (a + k)).result ≡
     comes (base_of l) k 0 w o
-
--- no refusal is 0
-abbrev pub Nonzero : Out → Type 0
-Nonzero o = (k : ℕ) → o ≡ refuse k → k ≡ 0 → ⊥
