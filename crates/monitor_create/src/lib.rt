@@ -39,7 +39,7 @@ fn do_create(ram: &mut [u8], ledger: &mut [u32], g: u64)
     let t = ledger_free::next(ledger);
     words::clear_frame(ram, t);
     ledger_free::become_table(ledger, t, g, kinds::ROOT_HEIGHT, 0);
-    guest::set_existence(ledger, g, guest::YES);
+    guest::set_existence(ledger, g, true);
     guest::set_root(ledger, g, t);
 }
 

@@ -13,12 +13,13 @@ ghost use Rattle.monitor_contract.specs.Answers.{Answers, Done};
 ghost use Rattle.monitor_contract.specs.EachFrame.{EachTurned, without};
 ghost use Rattle.monitor_destroy.specs.Destroy.{destroying, none_shared};
 
+use ledger::frame::Shared;
 use ledger::{frame, guest, header};
 use monitor_contract::checks;
 use monitor_contract::refusals::Refusal;
 
 // Frame f is no page that g shares with somebody, or somebody with g.
-#[tactic(auto, unfolding(model::specs::Operations::unshared, ledger::specs::Layout::state_in))]
+#[tactic(auto, using(ledger::proofs::Laws::Kinds::known_nothing), unfolding(model::specs::Operations::unshared, ledger::specs::Layout::state_in))]
 fn unshared(ram: &[u8], ledger: &[u32], f: u64, g: u64) -> bool
     requires sound { Sound ram.now ledger.now }
     requires f_bound { f < size_of ledger.now }
@@ -26,7 +27,7 @@ fn unshared(ram: &[u8], ledger: &[u32], f: u64, g: u64) -> bool
     ensures { result ≡ unshared_of (state_of ram.now ledger.now) f g }
 {
     !frame::is_page(ledger, f)
-        || (frame::share(ledger, f, g) == frame::NOTHING
+        || (frame::sharing(ledger, f, g) == Shared::Nothing
             && (!frame::is_page_of(ledger, f, g) || frame::uses(ledger, f).shares == 0))
 }
 
@@ -74,8 +75,8 @@ fn do_destroy(ram: &[u8], ledger: &mut [u32], g: u64)
     ensures { Done (destroying g) ram.now ledger.old ram.now ledger.new }
 {
     drain_all(ledger, g);
-    guest::set_existence(ledger, g, guest::NO);
-    guest::set_dirty(ledger, g, guest::YES);
+    guest::set_existence(ledger, g, false);
+    guest::set_dirty(ledger, g, true);
 }
 
 // "destroy g: g no longer exists and is dirty; its tables and pages drain for g"

@@ -44,7 +44,7 @@ fn do_invalidated(ram: &[u8], ledger: &mut [u32], g: u64)
     ensures { Done (invalidating g) ram.now ledger.old ram.now ledger.new }
 {
     release_all(ledger, g);
-    guest::set_dirty(ledger, g, guest::NO);
+    guest::set_dirty(ledger, g, false);
 }
 
 // "invalidated g: g isn't dirty any more; what drains for g is free"

@@ -7,6 +7,7 @@ ghost use Rattle.model.specs.State.{is_guest};
 ghost use Rattle.model.specs.Operations.{is_rights, shares as shares_of};
 ghost use Rattle.model.specs.Machine.{Map};
 ghost use Rattle.ledger.specs.Layout.{size_of, pick_of, state_of};
+ghost use Rattle.ledger.specs.Kinds.{share_code};
 ghost use Rattle.ledger.specs.LedgerSound.{LedgerSound};
 ghost use Rattle.ledger.specs.Sound.{Sound};
 ghost use Rattle.monitor_contract.specs.Refusals.{answer_number};
@@ -14,6 +15,7 @@ ghost use Rattle.monitor_contract.specs.Answers.{Answers, Done};
 ghost use Rattle.monitor_contract.specs.Found.{Translates, Finds};
 ghost use Rattle.monitor_map.specs.Map.{mapping as mapping_of, first_refusal, allows, Ready, IsMapPlan};
 
+use ledger::frame::Shared;
 use ledger::{frame, guest, header, words};
 use memory::FRAME_BYTES;
 use monitor_contract::checks;
@@ -38,10 +40,10 @@ fn has_rights(r: u64) -> bool
 
 // Of another guest's page, of which so much is shared: no executing; writing only where that is shared too.
 #[tactic(auto, unfolding(model::specs::Operations::shares))]
-fn shares(how: u64, r: u64) -> bool
-    ensures { result ≡ shares_of how r }
+fn shares(how: Shared, r: u64) -> bool
+    ensures { result ≡ shares_of (share_code how) r }
 {
-    how != frame::NOTHING && r < entries::EXECUTE && (r < entries::WRITE || frame::WRITING <= how)
+    how != Shared::Nothing && r < entries::EXECUTE && (r < entries::WRITE || how == Shared::Writing)
 }
 
 fn may_map(ledger: &[u32], f: u64, g: u64, r: u64) -> bool
@@ -51,7 +53,7 @@ fn may_map(ledger: &[u32], f: u64, g: u64, r: u64) -> bool
     ensures { result ≡ allows ledger.now f g r }
 {
     frame::is_page_of(ledger, f, g)
-        || (frame::is_page(ledger, f) && shares(frame::share(ledger, f, g), r))
+        || (frame::is_page(ledger, f) && shares(frame::sharing(ledger, f, g), r))
 }
 
 // The tests that look at no table.

@@ -5,12 +5,14 @@ ghost use Rattle.std.specs.Prelude.{◌≡◌, true, ◌<◌};
 ghost use Rattle.model.specs.Operations.{refusal, share as share_of, unshare as unshare_of};
 ghost use Rattle.model.specs.State.{is_guest};
 ghost use Rattle.ledger.specs.Layout.{size_of, count_of, dirty_of, state_of};
+ghost use Rattle.ledger.specs.Kinds.{share_code};
 ghost use Rattle.ledger.specs.LedgerSound.{LedgerSound};
 ghost use Rattle.ledger.specs.Sound.{Sound};
 ghost use Rattle.monitor_contract.specs.Refusals.{answer_number};
 ghost use Rattle.monitor_contract.specs.Answers.{Answers};
 ghost use Rattle.monitor_share.specs.Share.{sharing, unsharing, held_back, extent as extent_of};
 
+use ledger::frame::Shared;
 use ledger::{frame, guest};
 use monitor_contract::checks;
 use monitor_contract::refusals::Refusal;
@@ -32,7 +34,7 @@ fn held(ledger: &[u32], f: u64, h: u64) -> Result<(), Refusal>
     Ok(())
 }
 
-#[tactic(auto, using(ledger::proofs::Laws::Sound::guest_there), unfolding(model::specs::Operations::share, model::specs::Operations::check, ledger::specs::Layout::state_in, crate::specs::Share::held_back))]
+#[tactic(auto, using(ledger::proofs::Laws::Sound::guest_there, ledger::proofs::Laws::Kinds::known_writing), unfolding(model::specs::Operations::share, model::specs::Operations::check, ledger::specs::Layout::state_in, crate::specs::Share::held_back))]
 fn check_share(ram: &[u8], ledger: &[u32], g: u64, f: u64, h: u64, w: u64) -> Result<(), Refusal>
     requires { Sound ram.now ledger.now }
     ensures { answer_number result ≡ refusal (share_of (state_of ram.now ledger.now) g f h w) }
@@ -44,20 +46,20 @@ fn check_share(ram: &[u8], ledger: &[u32], g: u64, f: u64, h: u64, w: u64) -> Re
     }
     checks::frame_exists(ledger, f)?;
     checks::is_its_page(ledger, f, g)?;
-    if w == 0 && frame::WRITING <= frame::share(ledger, f, h) {
+    if w == 0 && frame::sharing(ledger, f, h) == Shared::Writing {
         return held(ledger, f, h);
     }
     Ok(())
 }
 
 // How far f is shared then.
-fn extent(w: u64) -> u64
-    ensures { result ≡ extent_of w }
+fn extent(w: u64) -> Shared
+    ensures { share_code result ≡ extent_of w }
 {
     if w == 0 {
-        frame::READING
+        Shared::Reading
     } else {
-        frame::WRITING
+        Shared::Writing
     }
 }
 
@@ -72,7 +74,7 @@ pub fn share(ram: &[u8], ledger: &mut [u32], g: u64, f: u64, h: u64, w: u64) -> 
     Ok(())
 }
 
-#[tactic(auto, using(ledger::proofs::Laws::Sound::guest_there), unfolding(model::specs::Operations::unshare, model::specs::Operations::check, ledger::specs::Layout::state_in, crate::specs::Share::held_back))]
+#[tactic(auto, using(ledger::proofs::Laws::Sound::guest_there, ledger::proofs::Laws::Kinds::known_nothing), unfolding(model::specs::Operations::unshare, model::specs::Operations::check, ledger::specs::Layout::state_in, crate::specs::Share::held_back))]
 fn check_unshare(ram: &[u8], ledger: &[u32], g: u64, f: u64, h: u64) -> Result<(), Refusal>
     requires { Sound ram.now ledger.now }
     ensures { answer_number result ≡ refusal (unshare_of (state_of ram.now ledger.now) g f h) }
@@ -81,7 +83,7 @@ fn check_unshare(ram: &[u8], ledger: &[u32], g: u64, f: u64, h: u64) -> Result<(
     checks::guest_exists(ledger, h)?;
     checks::frame_exists(ledger, f)?;
     checks::is_its_page(ledger, f, g)?;
-    if frame::share(ledger, f, h) == frame::NOTHING {
+    if frame::sharing(ledger, f, h) == Shared::Nothing {
         return Err(Refusal::NotItsPage);
     }
     held(ledger, f, h) // h loses it, so what h has mapped and kept counts
@@ -94,6 +96,6 @@ pub fn unshare(ram: &[u8], ledger: &mut [u32], g: u64, f: u64, h: u64) -> Result
     ensures { Answers (unsharing g f h) ram.now ledger.old (answer_number result) ram.now ledger.new }
 {
     check_unshare(ram, ledger, g, f, h)?;
-    frame::set_share(ledger, f, h, frame::NOTHING);
+    frame::set_share(ledger, f, h, Shared::Nothing);
     Ok(())
 }

@@ -60,7 +60,7 @@ fn do_unmap(ram: &mut [u8], ledger: &mut [u32], a: u64, g: u64, slot: Slot)
     );
     let places = frame::count(ledger, slot.frame, g);
     frame::set_count(ledger, slot.frame, g, places - 1);
-    guest::set_dirty(ledger, g, guest::YES);
+    guest::set_dirty(ledger, g, true);
 }
 
 // "unmap a from g: a no longer translates; the count falls by 1; g becomes dirty"
