@@ -46,6 +46,7 @@ fn shares(how: Shared, r: u64) -> bool
     how != Shared::Nothing && r < entries::EXECUTE && (r < entries::WRITE || how == Shared::Writing)
 }
 
+#[tactic(auto, using(crate::proofs::Laws::Map::shares_known))]
 fn may_map(ledger: &[u32], f: u64, g: u64, r: u64) -> bool
     requires ledger_sound { LedgerSound ledger.now }
     requires f_bound { f < size_of ledger.now }

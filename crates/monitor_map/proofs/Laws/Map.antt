@@ -22,6 +22,7 @@ use Rattle.model.proofs.Invariant.Answer.{core_alone, then_is, may_is}
 use Rattle.model.proofs.Invariant.MapUnmap.{address_low, map_good}
 use Rattle.ledger.specs.Columns.{SHARE_UNIT}
 use Rattle.ledger.specs.Layout.{size_of, first_of, exists_of, kind_of, shared_of, count_of, word_of, pick_of, state_in, state_of}
+use Rattle.ledger.specs.Kinds.{known_share}
 use Rattle.ledger.specs.Fields.{remade, with_count, with_words}
 use Rattle.ledger.specs.LedgerSound.{Changed}
 use Rattle.ledger.proofs.Laws.Words.{state_words}
@@ -41,6 +42,14 @@ use Rattle.monitor_contract.specs.Found.{Translates, Finds}
 use Rattle.monitor_contract.proofs.Laws.Found.{finds_asked}
 use Rattle.monitor_tables.specs.NewTable.{Growing}
 use Rattle.monitor_map.specs.Map.{mapping, six, asked, first_refusal, Granted, Ready}
+
+-- what Shared keeps of a stored number is all that the test looks at
+pub shares_known : (n r : ℕ) → shares (known_share n) r ≡ shares n r
+unfolding shares
+shares_known n r = elim (lt? WRITING n) [
+  | inl l ↦ rw (lt-ltb WRITING n l, lt-ltb NOTHING n (omega arith), le-leb WRITING n (omega arith)) refl
+  | inr l ↦ rw (le-ltb WRITING n l) refl
+]
 
 stuck : (b1 b2 b3 b4 b5 b6 : Bool) (s : State) (o : Out) → (refusal (six b1 b2 b3 b4 b5 b6 (done s)) ≡ 0 → ⊥) →
     six b1 b2 b3 b4 b5 b6 o ≡ refuse (refusal (six b1 b2 b3 b4 b5 b6 (done s)))
