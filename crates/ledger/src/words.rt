@@ -6,7 +6,7 @@ ghost use Rattle.model.specs.Changes.{zeros};
 ghost use Rattle.ledger.specs.Layout.{word_of};
 ghost use Rattle.ledger.specs.Words.{Within};
 
-const FRAME_BYTES: u64 = 4096;
+pub const FRAME_BYTES: u64 = 4096;
 
 const WORD_BYTES: u64 = 8;
 

@@ -1,4 +1,6 @@
 // The free frames, a sparse set: taking any, taking a named one and putting one back each exchange two places.
+// Stays: a permutation of frames in cells of the ledger, and no collection of the library: the ledger is a lent slice, with no heap.
+// Stays: what the contracts ask of a ledger and a frame stands in each of them, as in crate ledger.
 #![tactic(auto)]
 
 ghost use Rattle.std.specs.Prelude.{◌≡◌, false, ◌<◌, ◌^◌};

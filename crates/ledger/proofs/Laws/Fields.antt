@@ -13,7 +13,7 @@ use Rattle.model.specs.Base.{sum, upd, upd2}
 use Rattle.model.proofs.Laws.Base.{upd_at, upd_other, upd2_at, upd2_other}
 use Rattle.model.specs.State.{NOTHING, State, monitor, guests, is_guest, total}
 use Rattle.model.specs.Changes.{zeros}
-use Rattle.ledger.specs.Columns.{GUEST_ROWS, HEADER, FREE_COUNT, FRAME_COUNT, EXISTS, DIRTY, ROOT, YES, KIND, GUEST, HEIGHT, RANGE, CELLS, SHARE_UNIT, FRAME_AT}
+use Rattle.ledger.specs.Columns.{GUEST_ROWS, HEADER, FREE_COUNT, EXISTS, DIRTY, ROOT, YES, KIND, GUEST, HEIGHT, RANGE, CELLS, SHARE_UNIT, FRAME_AT}
 use Rattle.ledger.proofs.Laws.Cells.{column_other, upd_map}
 use Rattle.ledger.specs.Layout.{kind_at, size_in, first_in, kind_in, per_guest, share_part, count_part, exists_in, dirty_in, root_in, state_in}
 use Rattle.ledger.specs.Fields.{remade, with_kind, with_cell, with_share, with_no_shares, with_count, with_existence, with_root_at, with_dirt}
@@ -30,31 +30,13 @@ yes_stored f g b = upd_map (λ x. eqb x YES) f g (from_bool b) ∙ ap (upd (λ x
 module _ (F G w : ℕ → ℕ → ℕ) (g : ℕ) where
   pub state_existence : (b : Bool) → state_in F (upd2 G EXISTS g (from_bool b)) w ≡ with_existence g b (state_in F G w)
   unfolding state_in with_existence remade size_in first_in kind_in exists_in dirty_in root_in upd2 upd
-  state_existence b = λ i. record {
-    size = G FRAME_COUNT HEADER;
-    first = first_in G;
-    kind = kind_in F G;
-    shared = per_guest share_part F;
-    count = per_guest count_part F;
-    exists = yes_stored (G EXISTS) g b i;
-    root = G ROOT;
-    dirty = dirty_in G;
-    word = w;
-  }
+  state_existence b = ap (λ (e : ℕ → Bool). remade (state_in F G w) (kind_in F G) (per_guest share_part F) (per_guest count_part F) e
+      (G ROOT) (dirty_in G) w) (yes_stored (G EXISTS) g b)
 
   pub state_dirt : (b : Bool) → state_in F (upd2 G DIRTY g (from_bool b)) w ≡ with_dirt g b (state_in F G w)
   unfolding state_in with_dirt remade size_in first_in kind_in exists_in dirty_in root_in upd2 upd
-  state_dirt b = λ i. record {
-    size = G FRAME_COUNT HEADER;
-    first = first_in G;
-    kind = kind_in F G;
-    shared = per_guest share_part F;
-    count = per_guest count_part F;
-    exists = exists_in G;
-    root = G ROOT;
-    dirty = yes_stored (G DIRTY) g b i;
-    word = w;
-  }
+  state_dirt b = ap (λ (d : ℕ → Bool). remade (state_in F G w) (kind_in F G) (per_guest share_part F) (per_guest count_part F) (exists_in G)
+      (G ROOT) d w) (yes_stored (G DIRTY) g b)
 
   pub state_root : (t : ℕ) → state_in F (upd2 G ROOT g t) w ≡ with_root_at g t (state_in F G w)
   unfolding state_in with_root_at remade size_in first_in kind_in exists_in dirty_in root_in upd2 upd
@@ -251,33 +233,16 @@ unshared_size zero f s = refl
 unshared_size (suc h) f s = unshared_size h f s
 
 module _ (F G w : ℕ → ℕ → ℕ) (f : ℕ) where
+  with_shared : (ℕ → ℕ → ℕ) → State
+  with_shared S = let s = state_in F G w in remade s s.kind S s.count s.exists s.root s.dirty s.word
+
   pub guest_0_unshared : unshared_below 1 f (state_in F G w) ≡ state_in F G w
-  unfolding unshared_below with_share remade state_in per_guest
-  guest_0_unshared = λ i. record {
-    size = size_in G;
-    first = first_in G;
-    kind = kind_in F G;
-    shared = upd2_self (state_in F G w).shared f 0 0 refl i;
-    count = (state_in F G w).count;
-    exists = exists_in G;
-    root = root_in G;
-    dirty = dirty_in G;
-    word = w;
-  }
+  unfolding with_shared unshared_below with_share remade state_in per_guest
+  guest_0_unshared = ap with_shared (upd2_self (per_guest share_part F) f 0 0 refl)
 
   pub nobody_shares : unshared_below (guests + 1) f (state_in F G w) ≡ with_no_shares f (state_in F G w)
-  unfolding unshared_below with_share with_no_shares remade state_in
-  nobody_shares = λ i. record {
-    size = size_in G;
-    first = first_in G;
-    kind = kind_in F G;
-    shared = gone i;
-    count = per_guest count_part F;
-    exists = exists_in G;
-    root = root_in G;
-    dirty = dirty_in G;
-    word = w;
-  }
+  unfolding with_shared unshared_below with_share with_no_shares remade state_in
+  nobody_shares = ap with_shared gone
     where
       zero_at : (g : ℕ) → (unshared_below (guests + 1) f (state_in F G w)).shared f g ≡ zeros g
       zero_at g = elim (lt? guests g) [

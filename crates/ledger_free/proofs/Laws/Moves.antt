@@ -257,7 +257,8 @@ module _ (l : List ℕ) (s : LedgerSound l) (f : ℕ) (hf : f < size_of l) where
         go false x = absurd (omega arith)
 
     known : {A : Type 0} (φ : KindOfFrame → A) (j : Kind) (y : A) → k ≡ j → 0 < kind_code j →
-        (eqb (old_frames GUEST f) g ≡ true → φ (kind_at (kind_code j) (old_frames GUEST f) (old_frames HEIGHT f) (old_frames RANGE f)) ≡ y) →
+        (eqb (old_frames GUEST f) g ≡ true →
+        φ (kind_at (kind_code j) (old_frames GUEST f) (old_frames HEIGHT f) (old_frames RANGE f)) ≡ y) →
         φ (kind_of l f) ≡ y
     known φ j y e pos x = let a = is_it j e pos in rw (kind_here old_frames old_guests f hf, a.1) (x a.0)
 
