@@ -4,7 +4,6 @@ use Rattle.std.proofs.Math.Option.{Option}
 use Rattle.walk.specs.Both.{stage_2}
 use Rattle.model.specs.State.{page_count}
 use Rattle.model.specs.Translate.{Page, translate}
-use Rattle.model.specs.Operations.{Out, refuse}
 use Rattle.model.specs.Cache.{Access}
 use Rattle.model.specs.Machine as M
 use Rattle.model.specs.Terms.{expected}

@@ -1,4 +1,5 @@
-// The tests that several operations make: that the guest and the frame which a caller names are there, and that the frame is the guest's page.
+// The tests that several operations make: that the guest and the frame that a caller names are there, and that the frame is the guest's
+// page. Each is refused with its own number.
 ghost use Rattle.std.specs.Prelude.{◌<◌, ltb};
 ghost use Rattle.model.specs.State.{is_page_of};
 ghost use Rattle.ledger.specs.Layout.{size_of, exists_of, kind_of};

@@ -56,6 +56,7 @@ fn check_destroy(ram: &[u8], ledger: &[u32], g: u64) -> Result<(), Refusal>
     Ok(())
 }
 
+// Stays: beside release_all of monitor_invalidated, for the reason written there.
 #[tactic(auto, using(monitor_contract::proofs::Laws::EachFrame::turned_low, monitor_contract::proofs::Laws::Answers::still_low))]
 fn drain_all(ledger: &mut [u32], g: u64)
     requires ledger_sound { LedgerSound ledger.old }

@@ -27,6 +27,8 @@ fn check_invalidated(ram: &[u8], ledger: &[u32], g: u64) -> Result<(), Refusal>
     }
 }
 
+// Stays: drain_all of monitor_destroy is this loop over another turn; one loop for both takes the turn as a closure, and then a clause on
+// the closure that is longer than the two loops.
 #[tactic(auto, using(monitor_contract::proofs::Laws::EachFrame::turned_low))]
 fn release_all(ledger: &mut [u32], g: u64)
     requires { LedgerSound ledger.old }

@@ -24,6 +24,7 @@ use monitor_tables::way::Place;
 use monitor_tables::{entries, new_table, way};
 
 // "rights not 1, 3, 5 or 7 (1 read, 2 write, 4 execute, added up)" are refused with 8.
+// Stays: numbers. What C passes goes on as a number to entries::of_page, which codes any; an enum would be made of it and turned back.
 const R: u64 = 1;
 
 const RW: u64 = 3;
@@ -58,6 +59,7 @@ fn may_map(ledger: &[u32], f: u64, g: u64, r: u64) -> bool
 }
 
 // The tests that look at no table.
+// Stays: f, g, a and r are four numbers, as in `mapping f g a r`: every clause here would take a struct of them apart again.
 #[tactic(auto, using(ledger::proofs::Laws::Sound::guest_there), unfolding(model::specs::Operations::check, model::specs::Operations::may_map, ledger::specs::Layout::state_in))]
 fn check_map(ram: &[u8], ledger: &[u32], f: u64, g: u64, a: u64, r: u64) -> Result<(), Refusal>
     requires { Sound ram.now ledger.now }

@@ -13,6 +13,7 @@ use memory::FRAME_BYTES;
 use walk::Answer;
 
 // What a frame is; Outside where there is no such frame. A page is mapped in so many places.
+// Stays: Outside and Nobody are told to C as one kind among the others (`frame_answer`, `guest_answer`), and so are no None.
 #[derive(Clone, Copy, PartialEq, Eq)]
 pub enum FrameKind {
     Outside,
@@ -54,6 +55,7 @@ pub fn what_frame(ram: &[u8], ledger: &[u32], f: u64) -> FrameKind
 }
 
 // What of frame f is shared with guest h: the number of `Shared`.
+// Stays: a number, since `share_told` promises the very one that is stored, and Shared holds three.
 #[tactic(auto, unfolding(crate::specs::Questions::share_told, ledger::specs::Layout::state_in))]
 pub fn shared_with(ram: &[u8], ledger: &[u32], f: u64, h: u64) -> u64
     requires { Sound ram.now ledger.now }
@@ -95,6 +97,7 @@ pub fn what_guest(ram: &[u8], ledger: &[u32], g: u64) -> GuestKind
 }
 
 // Stage 2 alone from guest g's root: access is 0 to read, 1 to write, 2 to execute. Refused where there is no such guest.
+// Stays: access is the number that C passes, and `translated` promises an answer for each.
 #[tactic(auto, using(crate::proofs::Laws::Questions::first_room), unfolding(crate::specs::Questions::translated))]
 pub fn translation(ram: &[u8], ledger: &[u32], g: u64, ipa: u64, access: u64) -> Answer
     requires { Sound ram.now ledger.now }

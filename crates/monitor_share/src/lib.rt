@@ -18,7 +18,6 @@ use monitor_contract::checks;
 use monitor_contract::refusals::Refusal;
 
 // 13 while h has f mapped anywhere, 14 while h is dirty: what keeps a right from being taken away.
-#[tactic(auto, unfolding(crate::specs::Share::held_back))]
 fn held(ledger: &[u32], f: u64, h: u64) -> Result<(), Refusal>
     requires ledger_sound { LedgerSound ledger.now }
     requires f_bound { f < size_of ledger.now }
@@ -34,7 +33,7 @@ fn held(ledger: &[u32], f: u64, h: u64) -> Result<(), Refusal>
     Ok(())
 }
 
-#[tactic(auto, using(ledger::proofs::Laws::Sound::guest_there, ledger::proofs::Laws::Kinds::known_writing), unfolding(model::specs::Operations::share, model::specs::Operations::check, ledger::specs::Layout::state_in, crate::specs::Share::held_back))]
+#[tactic(auto, using(crate::proofs::Laws::Share::tests), unfolding(model::specs::Operations::share, model::specs::Operations::check, ledger::specs::Layout::state_in))]
 fn check_share(ram: &[u8], ledger: &[u32], g: u64, f: u64, h: u64, w: u64) -> Result<(), Refusal>
     requires { Sound ram.now ledger.now }
     ensures { answer_number result ≡ refusal (share_of (state_of ram.now ledger.now) g f h w) }
@@ -53,6 +52,7 @@ fn check_share(ram: &[u8], ledger: &[u32], g: u64, f: u64, h: u64, w: u64) -> Re
 }
 
 // How far f is shared then.
+// Stays: w is the number that C passes, and `sharing g f h w` promises an answer for each: all but 0 are writing.
 fn extent(w: u64) -> Shared
     ensures { share_code result ≡ extent_of w }
 {
@@ -74,7 +74,7 @@ pub fn share(ram: &[u8], ledger: &mut [u32], g: u64, f: u64, h: u64, w: u64) -> 
     Ok(())
 }
 
-#[tactic(auto, using(ledger::proofs::Laws::Sound::guest_there, ledger::proofs::Laws::Kinds::known_nothing), unfolding(model::specs::Operations::unshare, model::specs::Operations::check, ledger::specs::Layout::state_in, crate::specs::Share::held_back))]
+#[tactic(auto, using(crate::proofs::Laws::Share::tests), unfolding(model::specs::Operations::unshare, model::specs::Operations::check, ledger::specs::Layout::state_in))]
 fn check_unshare(ram: &[u8], ledger: &[u32], g: u64, f: u64, h: u64) -> Result<(), Refusal>
     requires { Sound ram.now ledger.now }
     ensures { answer_number result ≡ refusal (unshare_of (state_of ram.now ledger.now) g f h) }

@@ -40,6 +40,7 @@ fn clear_and_link(ram: &mut [u8], ledger: &[u32], t: u64, i: u64, u: u64)
 }
 
 // The table below t, of height h, on the way to v.
+// Stays: h and t are no Place, since the loop that calls it counts the heights and keeps the table alone.
 #[tactic(auto, using(crate::proofs::Laws::NewTable::grows_so))]
 pub fn make_table(ram: &mut [u8], ledger: &mut [u32], g: u64, v: u64, h: u64, t: u64) -> u64
     requires growing { Growing ram.old ledger.old g v h t }

@@ -1,15 +1,12 @@
 -- Laws of specs/Found.
 use mathlib.Core.Path.{◌≡◌, refl, sym, ap, subst, ◌∙◌}
-use mathlib.Core.Bool.{Bool, true, false}
 use mathlib.Core.Option.{Option}
 use mathlib.Core.List.{List}
-use Prim.Native.Nat.{ℕ, ◌+◌, ◌*◌, ◌<◌}
+use Prim.Native.Nat.{ℕ, ◌+◌, ◌*◌}
 use native.Mathlib.Omega.{arith}
 use Rattle.memory.specs.Word.{word_at}
 use Rattle.walk.specs.Both.{stage_2}
-use Rattle.model.specs.State.{State}
 use Rattle.model.specs.Translate.{Page}
-use Rattle.model.specs.Operations.{Out, done, refusal, check}
 use Rattle.model.specs.Bytes.{Image, access, comes}
 use Rattle.model.proofs.Invariant.RoundTrip.{AskedAt, walk_asked}
 use Rattle.ledger.specs.Layout.{root_of, state_in, state_of}

@@ -1,6 +1,5 @@
 -- Laws of specs/Refusals.
 use mathlib.Core.Path.{◌≡◌}
-use Prim.Native.Nat.{ℕ}
 use native.Mathlib.Omega.{arith}
 use Rattle.std.specs.Prelude.{Result, Ok, Err, OnOk}
 use Rattle.monitor_contract.specs.declared.refusals.Refusal.{Refusal}

@@ -3,18 +3,16 @@ use mathlib.Core.Path.{◌≡◌, refl, sym, ap, ◌∙◌}
 use mathlib.Core.Bool.{Bool, true, false, true≢false}
 use mathlib.Core.Logic.{inl, inr}
 use mathlib.Core.List.{List}
-use Prim.Native.Nat.{ℕ, zero, suc, ◌+◌, ◌<◌}
+use Prim.Native.Nat.{ℕ, zero, suc, ◌<◌}
 use native.Mathlib.Omega.{arith}
-use native.Mathlib.Numerals.{add-one}
-use lib.Dec.{eqb}
 use Rattle.model.proofs.Laws.Base.{bool?, all_true}
 use Rattle.model.specs.Base.{upd, all}
-use Rattle.model.specs.State.{State, is_guest, is_page, is_page_of, total}
+use Rattle.model.specs.State.{State, is_guest}
 use Rattle.model.specs.Changes.{zeros, drained, without_guest}
 use Rattle.model.specs.Operations.{done, refusal, check, unshared, destroy}
 use Rattle.model.proofs.Invariant.Destroy.{destroy_good}
 use Rattle.ledger.specs.Columns.{GUEST_ROWS}
-use Rattle.ledger.specs.Layout.{size_of, kind_of, shared_of, exists_of, state_in, state_of}
+use Rattle.ledger.specs.Layout.{size_of, exists_of, state_in, state_of}
 use Rattle.ledger.specs.Fields.{remade, with_existence, with_dirt}
 use Rattle.ledger.specs.LedgerSound.{Changed}
 use Rattle.ledger.proofs.Laws.Fields.{guest_low, upd_self}

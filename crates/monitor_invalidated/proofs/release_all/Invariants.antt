@@ -1,6 +1,4 @@
 -- After f turns, the first f frames are released.
-use mathlib.Core.Path.{◌≡◌}
-use lib.ListN.{length}
 use Rattle.model.specs.Changes.{released}
 use Rattle.ledger.specs.LedgerSound.{Changed}
 use Rattle.monitor_contract.specs.EachFrame.{turned_below, same}

@@ -1,17 +1,17 @@
 -- Laws of specs/Map.
 use mathlib.Core.Path.{◌≡◌, refl, sym, ap, ◌∙◌}
-use mathlib.Core.Bool.{Bool, true, false, not, ◌&&◌, ◌||◌}
+use mathlib.Core.Bool.{Bool, true, false, not}
 use mathlib.Core.Logic.{inl, inr}
 use mathlib.Core.Option.{some}
 use mathlib.Core.List.{List}
-use Prim.Native.Nat.{ℕ, suc, ◌+◌, ◌-◌, ◌<◌, ◌≤◌, ◌/◌, ◌%◌}
+use Prim.Native.Nat.{ℕ, suc, ◌+◌, ◌<◌, ◌≤◌, ◌/◌, ◌%◌}
 use native.Mathlib.Omega.{arith}
-use lib.Dec.{eqb, ltb, leb}
+use lib.Dec.{ltb, leb}
 use lib.ListN.{length}
-use borrow.Author.Tests.{le-leb, lt-leb, lt-ltb, le-ltb, ne_eqb}
+use borrow.Author.Tests.{le-leb, lt-leb, lt-ltb, le-ltb}
 use Rattle.model.proofs.Laws.Base.{lt?}
 use Rattle.model.specs.Base.{upd2}
-use Rattle.model.specs.State.{WRITE, EXECUTE, NOTHING, WRITING, State, page, page_count, is_page, is_page_of, free_frames}
+use Rattle.model.specs.State.{NOTHING, WRITING, State, page, page_count, free_frames}
 use Rattle.model.specs.Entry.{page_entry}
 use Rattle.model.specs.Translate.{mapped, missing}
 use Rattle.model.specs.Changes.{Grown, grow, with_page, with_mapping}
@@ -21,7 +21,7 @@ use Rattle.model.proofs.Invariant.Core.{low}
 use Rattle.model.proofs.Invariant.Answer.{core_alone, then_is, may_is}
 use Rattle.model.proofs.Invariant.MapUnmap.{address_low, map_good}
 use Rattle.ledger.specs.Columns.{SHARE_UNIT}
-use Rattle.ledger.specs.Layout.{size_of, first_of, exists_of, kind_of, shared_of, count_of, word_of, pick_of, state_in, state_of}
+use Rattle.ledger.specs.Layout.{size_of, first_of, exists_of, kind_of, count_of, word_of, pick_of, state_in, state_of}
 use Rattle.ledger.specs.Kinds.{known_share}
 use Rattle.ledger.specs.Fields.{remade, with_count, with_words}
 use Rattle.ledger.specs.LedgerSound.{Changed}

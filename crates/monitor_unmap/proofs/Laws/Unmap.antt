@@ -1,6 +1,6 @@
 -- Laws of specs/Unmap.
 use mathlib.Core.Path.{◌≡◌, refl, sym, ap, subst, ◌∙◌}
-use mathlib.Core.Bool.{Bool, true, false}
+use mathlib.Core.Bool.{Bool, true}
 use mathlib.Core.Logic.{inl, inr}
 use mathlib.Core.Option.{none, some}
 use mathlib.Core.List.{List}
@@ -14,7 +14,7 @@ use Rattle.model.specs.State.{page_count, State, table, page, is_guest}
 use Rattle.model.specs.Entry.{entry, to_page}
 use Rattle.model.specs.Translate.{upper, entry_at, translate, mapped}
 use Rattle.model.specs.Changes.{without_page, without_mapping}
-use Rattle.model.specs.Operations.{refuse, done, check, page_address, unmap}
+use Rattle.model.specs.Operations.{done, check, page_address, unmap}
 use Rattle.model.proofs.Laws.Ways.{Shows}
 use Rattle.model.specs.Invariant.{May}
 use Rattle.model.proofs.Invariant.Core.{low}

@@ -1,12 +1,10 @@
 -- At each height the way from here on is the whole way.
-use mathlib.Core.Path.{◌≡◌, ◌∙◌, ap}
+use mathlib.Core.Path.{◌∙◌, ap}
 use Prim.Native.Nat.{ℕ, ◌%◌}
-use Rattle.model.specs.Translate.{index}
 use Rattle.ledger.specs.Layout.{word_of, state_of}
 use Rattle.ledger.proofs.Laws.Fields.{guest_low}
 use Rattle.ledger.proofs.Laws.Sound.{guest_there}
 use Rattle.monitor_tables.proofs.Laws.Way.{way_root, way_leads, way_down, way_short, ended_last}
-use native.Mathlib.Omega.{arith}
 use Rattle.monitor_tables.proofs.way.descend.Goals as goal
 
 pub root-table-requires-clause-g_bound : goal.root-table-requires-clause-g_bound
