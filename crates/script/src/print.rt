@@ -4,7 +4,7 @@ ghost use Rattle.script_text.specs.Wrote.{Wrote};
 ghost use Rattle.ledger.specs.Layout.{state_of};
 ghost use Rattle.script_machine.specs.Printable.{Printable};
 ghost use Rattle.script_machine.specs.Machine.{MachineSound, ram_of, ledger_of};
-ghost use Rattle.script_print.specs.Answer.{HoldsText};
+ghost use Rattle.script_print.specs.Answer.{name_bytes};
 ghost use Rattle.script_print.specs.Frame.{frame_text_bytes, line_bytes};
 ghost use Rattle.script.specs.Printed.{reply_bytes, mistake_bytes, printed_bytes, reason_text, reply_text, mistake_text};
 ghost use Rattle.script_machine.specs.declared.Reply.TheVariants.{Frame, Ledger};
@@ -13,70 +13,27 @@ ghost use Rattle.script_text.specs.Text.{ascii};
 use ledger::columns::{HEADER_WORDS, ROW_WORDS};
 use script_language::Reason;
 use script_machine::{Machine, Reply};
-use script_print::answers::{Text, put_answer, put_text};
+use script_print::answers::put_answer;
 use script_print::frames::{put_frame, put_ledger};
 use script_print::guests::put_guest;
 use script_text::digits::{put, put_decimal, put_word};
 
-const UNKNOWN_COMMAND: Text = Text {
-    bytes: *b"unknown command     ",
-    length: 15,
-};
-
-const TOO_FEW_WORDS: Text = Text {
-    bytes: *b"too few words       ",
-    length: 13,
-};
-
-const TOO_MANY_WORDS: Text = Text {
-    bytes: *b"too many words      ",
-    length: 14,
-};
-
-const NUMBER_EXPECTED: Text = Text {
-    bytes: *b"number expected     ",
-    length: 15,
-};
-
-const NUMBER_TOO_LARGE: Text = Text {
-    bytes: *b"number too large    ",
-    length: 16,
-};
-
-const ACCESS_EXPECTED: Text = Text {
-    bytes: *b"access is r, w or x ",
-    length: 19,
-};
-
-const LEVEL_EXPECTED: Text = Text {
-    bytes: *b"level is el0 or el1 ",
-    length: 19,
-};
-
-const NOT_TEXT: Text = Text {
-    bytes: *b"not text            ",
-    length: 8,
-};
-
-const LINE_TOO_LONG: Text = Text {
-    bytes: *b"line too long       ",
-    length: 13,
-};
-
 // A reason in words.
-fn reason_text(why: Reason) -> Text
-    ensures { HoldsText result (reason_text why) }
+#[tactic(auto, unfolding(crate::specs::Printed::reason_text))]
+fn reason_text(why: Reason) -> &'static [u8]
+    ensures text { result.now ≡ reason_text why }
+    ensures short { length result.now ≤ name_bytes }
 {
     match why {
-        Reason::UnknownCommand => UNKNOWN_COMMAND,
-        Reason::TooFewWords => TOO_FEW_WORDS,
-        Reason::TooManyWords => TOO_MANY_WORDS,
-        Reason::NumberExpected => NUMBER_EXPECTED,
-        Reason::NumberTooLarge => NUMBER_TOO_LARGE,
-        Reason::AccessExpected => ACCESS_EXPECTED,
-        Reason::LevelExpected => LEVEL_EXPECTED,
-        Reason::NotText => NOT_TEXT,
-        Reason::LineTooLong => LINE_TOO_LONG,
+        Reason::UnknownCommand => b"unknown command",
+        Reason::TooFewWords => b"too few words",
+        Reason::TooManyWords => b"too many words",
+        Reason::NumberExpected => b"number expected",
+        Reason::NumberTooLarge => b"number too large",
+        Reason::AccessExpected => b"access is r, w or x",
+        Reason::LevelExpected => b"level is el0 or el1",
+        Reason::NotText => b"not text",
+        Reason::LineTooLong => b"line too long",
     }
 }
 
@@ -148,6 +105,6 @@ pub fn put_mistake(out: &mut [u8], why: Reason) -> usize
     ensures { Wrote mistake_bytes out.old 0 out.new result (mistake_text why) }
 {
     let at = put(out, 0, b"error: ");
-    let end = put_text(out, at, reason_text(why));
+    let end = put(out, at, reason_text(why));
     put_line_end(out, end)
 }

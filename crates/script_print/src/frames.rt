@@ -42,9 +42,7 @@ fn put_guest_list(
         (guest_list_text least (share_told (state_of ram.now ledger.now) f)) }
 {
     let mut next = at;
-    let mut g: u64 = 0;
-    while g < ledger::GUESTS {
-        g += 1;
+    for g in 1..=ledger::GUESTS {
         let share = shared_with(ram, ledger, f, g);
         if least <= share {
             next = put_listed_guest(out, next, next == at, g);
@@ -118,10 +116,8 @@ pub fn put_ledger(out: &mut [u8], at: usize, ram: &[u8], ledger: &[u32]) -> usiz
 {
     let n = header::size(ledger);
     let mut next = at;
-    let mut f: u64 = 0;
-    while f < n {
+    for f in 0..n {
         next = put_line(out, next, ram, ledger, f);
-        f += 1;
     }
     next
 }

@@ -53,28 +53,30 @@ no_text : (l : List ℕ) → length l ≡ 0 → l ≡ []
 no_text [] e = refl
 no_text (x ∷ l) e = absurd (omega arith)
 
--- After g turns the guests 1 to g are told.
+-- Before the turn of guest g the guests 1 to k = g - 1 are told.
+module _ (least : ℕ) (shares : ℕ → ℕ) {m l : List ℕ} {at next : ℕ} (k g : ℕ) (one : k + 1 ≡ g)
+    (w : Wrote (listed_guest_bytes * k) m at l next (guest_list_to least shares k)) where
+  pub list_passed : {x : ℕ} → x ≡ shares g → x < least → Wrote (listed_guest_bytes * g) m at l next (guest_list_to least shares g)
+  unfolding guest_list_to
+  list_passed e h =
+      wrote_within w (omega arith) (rw (sym one, add-one k, lt-leb least (shares (suc k)) (subst (λ (n : ℕ). n < least) (e ∙ ap shares (sym one ∙ add-one k)) h)))
+
+  pub list_more : {x : ℕ} {o : List ℕ} {r : ℕ} → x ≡ shares g → least ≤ x
+      → Wrote listed_guest_bytes l next o r (listed_guest_text (eqb next at) g)
+      → Wrote (listed_guest_bytes * g) m at o r (guest_list_to least shares g)
+  unfolding guest_list_to
+  list_more e h v =
+      wrote_within (wrote_then w v) (omega arith)
+      (rw (
+        sym one,
+        add-one k,
+        le-leb least (shares (suc k)) (subst (λ (n : ℕ). least ≤ n) (e ∙ ap shares (sym one ∙ add-one k)) h),
+        first_here at _ next w.next,
+      ))
+
+-- After all turns, k is the number of guests.
 module _ (least : ℕ) (shares : ℕ → ℕ) {m l : List ℕ} {at next : ℕ} (g : ℕ)
     (w : Wrote (listed_guest_bytes * g) m at l next (guest_list_to least shares g)) where
-  pub list_passed : {x : ℕ} → x ≡ shares (g + 1) → x < least
-      → Wrote (listed_guest_bytes * (g + 1)) m at l next (guest_list_to least shares (g + 1))
-  unfolding guest_list_to
-  list_passed {x} e h = wrote_within w (omega arith) (rw (add-one g, lt-leb least (shares (suc g)) (passed h)))
-    where
-      passed : x < least → shares (suc g) < least
-      passed h = subst (λ (k : ℕ). k < least) (e ∙ ap shares (add-one g)) h
-
-  pub list_more : {x : ℕ} {k : List ℕ} {r : ℕ} → x ≡ shares (g + 1) → least ≤ x
-      → Wrote listed_guest_bytes l next k r (listed_guest_text (eqb next at) (g + 1))
-      → Wrote (listed_guest_bytes * (g + 1)) m at k r (guest_list_to least shares (g + 1))
-  unfolding guest_list_to
-  list_more {x} e h v =
-      wrote_within (wrote_then w v) (omega arith)
-      (rw (add-one g, le-leb least (shares (suc g)) (listed h), first_here at _ next w.next))
-    where
-      listed : least ≤ x → least ≤ shares (suc g)
-      listed h = subst (λ (k : ℕ). least ≤ k) (e ∙ ap shares (add-one g)) h
-
   pub list_empty : {k : List ℕ} {r : ℕ} → g ≤ guests → guests ≤ g → next ≡ at → Wrote 1 l at k r (ascii "-")
       → Wrote guest_list_bytes m at k r (guest_list_text least shares)
   unfolding guest_list_text

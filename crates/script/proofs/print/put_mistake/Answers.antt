@@ -8,5 +8,5 @@ use Rattle.script.proofs.print.put_mistake.Goals as goal
 pub returns : goal.returns
 unfolding mistake_text
 returns c = wrote_then
-    (wrote_then c.put-at.ensures (wrote_within {b = name_bytes} c.put_text-end.ensures (omega arith) c.reason_text.ensures.same))
+    (wrote_then c.put-at.ensures (wrote_within {b = name_bytes} c.put-end.ensures c.reason_text.ensures.short c.reason_text.ensures.text))
     c.put_line_end.ensures

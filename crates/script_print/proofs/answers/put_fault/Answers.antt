@@ -7,5 +7,5 @@ use Rattle.script_print.proofs.answers.put_fault.Goals as goal
 pub returns : goal.returns
 unfolding fault_text
 returns c = wrote_then
-    (wrote_then (wrote_within {b = name_bytes} c.put_text-a.ensures (omega arith) c.kind_text.ensures.same) c.put_field-b.ensures)
+    (wrote_then (wrote_within {b = name_bytes} c.put-a.ensures c.kind_text.ensures.short c.kind_text.ensures.text) c.put_field-b.ensures)
     c.put_field.ensures

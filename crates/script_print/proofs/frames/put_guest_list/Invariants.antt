@@ -2,16 +2,11 @@ use Prim.Native.Nat.{◌*◌, ◌-◌, ◌≤◌}
 use mathlib.Core.Path.{◌≡◌}
 use lib.ListN.{length}
 use Rattle.script_text.specs.Wrote.{Wrote}
-use Rattle.model.specs.State.{guests}
 use Rattle.ledger.specs.Layout.{state_of}
 use Rattle.monitor_query.specs.Questions.{share_told}
 use Rattle.script_print.specs.Frame.{listed_guest_bytes, guest_list_to}
 use Rattle.script_print.proofs.frames.put_guest_list.Given as goal
 
 abbrev pub invariant-loop-g : goal.invariant-loop-g
-invariant-loop-g l =
-    (l.g ≤ guests) × (length l.out ≡ length l.initial.out) × Wrote (listed_guest_bytes * l.g) l.initial.out l.at l.out l.next
-    (guest_list_to l.least (share_told (state_of l.ram l.ledger) l.f) l.g)
-
-abbrev pub decreases-loop-g : goal.decreases-loop-g
-decreases-loop-g l = guests - l.g
+invariant-loop-g l = Wrote (listed_guest_bytes * (l.g - 1)) l.initial.out l.at l.out l.next
+    (guest_list_to l.least (share_told (state_of l.ram l.ledger) l.f) (l.g - 1))
