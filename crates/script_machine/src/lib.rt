@@ -9,12 +9,14 @@ use script_language::Command;
 use walk::Answer;
 
 mod operations;
+mod parts;
 mod questions;
 mod start;
 mod words;
 
 // The machine that `setup` made: RAM is the first `frames` frames of the lent slice, from physical address `base`. No frames: none yet.
 // Ready: the ledger is what `setup` and the operations have made, and no `word` has hit a table since.
+// Stays: `frames: 0` and no Option<Machine>. RAM with no frames has no word and no walk, so each command answers it by its own rule.
 #[derive(Clone, Copy)]
 pub struct Machine {
     pub base: u64,
@@ -64,12 +66,12 @@ pub fn execute(c: Command, m: Machine, ram: &mut [u8], ledger: &mut [u32]) -> Ou
             frames,
             base,
             monitor,
-        } => start::set_up(m, ram, ledger, frames, base, monitor),
-        Command::StoreWord { address, value } => words::store_word(m, ram, ledger, address, value),
-        Command::Operate(o) => operations::operate(o, m, ram, ledger),
+        } => m.set_up(ram, ledger, frames, base, monitor),
+        Command::StoreWord { address, value } => m.store_word(ram, ledger, address, value),
+        Command::Operate(o) => m.operate(o, ram, ledger),
         Command::Ask(q) => Outcome {
             machine: m,
-            reply: questions::reply_to(q, m, ram, ledger),
+            reply: m.reply_to(q, ram, ledger),
         },
     }
 }

@@ -1,9 +1,10 @@
 -- Where a word of RAM is in its slice; and what each command did, from what its callees ensure.
 use Prim.Native.Nat.{ℕ, ◌+◌, ◌-◌, ◌*◌, ◌/◌, ◌%◌, ◌≤◌, ◌<◌, ◌^◌}
 use mathlib.Core.Path.{◌≡◌, refl, sym, ap, subst, ◌∙◌}
-use mathlib.Core.Bool.{Bool, true, false, not, ◌&&◌, ◌||◌}
+use mathlib.Core.Bool.{Bool, true, false, not, cond, ◌&&◌, ◌||◌}
 use mathlib.Core.List.{List, ◌++◌}
 use native.Mathlib.Omega.{arith}
+use Rattle.std.proofs.Common.{Some, None}
 use lib.Dec.{leb, ltb, eqb}
 use lib.ListN.{length, take, drop}
 use lib.Seq.{length-take-le, length_front, take_at, drop_at, take-set-lt}
@@ -24,7 +25,7 @@ use Rattle.script_language.specs.declared.Operation.{Operation}
 use Rattle.script_language.specs.declared.Command.TheVariants.{SetUp, StoreWord, Operate}
 use Rattle.script_machine.specs.declared.Machine.{Machine}
 use Rattle.script_machine.specs.declared.Reply.{Reply}
-use Rattle.script_machine.specs.declared.Reply.TheVariants.{Done, Number}
+use Rattle.script_machine.specs.declared.Reply.TheVariants.{Done, Number, SetupNeeded}
 use Rattle.script_machine.specs.Operations.{operation}
 use Rattle.script_machine.specs.Machine.{word_bytes, RamLent, MachineSound, allowed_of, word_in_ram, word_in_table, ram_of, ledger_of, outcome, machine_of, if_ready, SetupDone, OperationDone, Executed}
 use Rattle.script_machine.proofs.Laws.Parts.{ledger_within}
@@ -39,7 +40,16 @@ neither true y e = (let z : ◌≡◌ {A = Bool} false true = e in cc, let z : �
 neither false true e = (refl, let z : ◌≡◌ {A = Bool} false true = e in cc)
 neither false false e = (refl, refl)
 
--- a word in RAM: where it is in the slice
+-- a word that has a place in RAM
+pub placed : (m : Machine) (a at : ℕ) → Some at ≡ cond (word_in_ram m a) (Some (a - m.base)) None
+    → (word_in_ram m a ≡ true) × (at ≡ a - m.base)
+placed m a at e = go (word_in_ram m a) e
+  where
+    go : (t : Bool) → Some at ≡ cond t (Some (a - m.base)) None → (t ≡ true) × (at ≡ a - m.base)
+    go true e = (refl, cc)
+    go false e = cc
+
+-- and where it is in the slice
 pub place : (m : Machine) (a : ℕ) → word_in_ram m a ≡ true → (m.base ≤ a) × (a - m.base + word_bytes ≤ frame_bytes * m.frames)
 unfolding word_in_ram
 place m a e =
@@ -84,8 +94,12 @@ module _ (l : List ℕ) (f k : ℕ) (e : k ≡ kind_number (kind_of l f)) where
   pub drains : (k ≡ 2 → ⊥) → eqb k 3 ≡ tabled (kind_of l f)
   drains ne = sym (by_sort (kind_of l f) ∙ rw (sym e, ne_eqb k 2 ne))
 
-pub if_ready_so : (m : Machine) (x y : Reply) → m.ready ≡ true → y ≡ x → y ≡ if_ready m x
-if_ready_so m x y h e = e ∙ rw h
+pub if_ready_so : (m : Machine) (x r : Reply) → (m.ready ≡ true → r ≡ x) → (m.ready ≡ false → r ≡ SetupNeeded) → r ≡ if_ready m x
+if_ready_so m x r is_ready not_ready = go m.ready is_ready not_ready
+  where
+    go : (t : Bool) → (t ≡ true → r ≡ x) → (t ≡ false → r ≡ SetupNeeded) → r ≡ cond t x SetupNeeded
+    go true is_ready not_ready = is_ready refl
+    go false is_ready not_ready = not_ready refl
 
 -- a part that was lent is back: it is in its place, and the rest is as it was
 module _ (n : ℕ) (xs ys : List ℕ) (low : n ≤ length xs) (len : length ys ≡ length (take n xs)) where
