@@ -1,59 +1,36 @@
--- Part after part, and the line's end. A frame and the ledger are told of a machine that is ready.
+-- The reply's text, and the line's end.
+use Prim.Native.Nat.{ℕ, ◌+◌, ◌≤◌}
 use mathlib.Core.Path.{◌≡◌}
-use mathlib.Core.Bool.{true}
-use Prim.Native.Nat.{ℕ}
-use Rattle.script_machine.specs.declared.Machine.{Machine}
-use Rattle.script_machine.specs.declared.Reply.{Reply}
-use Rattle.script_machine.specs.declared.Reply.TheVariants.{Frame, Ledger}
-use Rattle.script_machine.specs.Printable.{Printable}
+use mathlib.Core.List.{List, ◌++◌}
 use Rattle.script.specs.Printed.{reply_text}
+use Rattle.script_machine.proofs.Laws.Parts.{size_is}
+use Rattle.script_text.specs.Text.{ascii}
+use Rattle.script_text.specs.Wrote.{Wrote}
 use Rattle.script_text.proofs.Laws.Printing.{wrote_then, wrote_within}
 use native.Mathlib.Omega.{arith}
 use Rattle.script.proofs.print.put_reply.Goals as goal
+use Rattle.script.proofs.print.put_reply.Goals.{in-Done, in-OutsideRam, in-Number, in-Contents, in-Walked, in-Frame, in-Guest, in-SetupNeeded}
 
-frame_ready : (m : Machine) (x : Reply) (f : ℕ) → x ≡ Frame f → Printable m x → m.ready ≡ true
-frame_ready m x f e t = rw e at t
-
-ledger_ready : (m : Machine) (x : Reply) → x ≡ Ledger → Printable m x → m.ready ≡ true
-ledger_ready m x e t = rw e at t
-
-pub put_frame_line-requires : goal.put_frame_line-requires
-put_frame_line-requires c = (c.requires.0, frame_ready c.args.m _ _ c.in-Frame.is c.requires.1, omega arith)
-
-pub put_whole_ledger-requires : goal.put_whole_ledger-requires
-put_whole_ledger-requires c = (c.requires.0, ledger_ready c.args.m _ c.in-Ledger.is c.requires.1, omega arith)
-
-pub returns-in-Done : goal.returns-in-Done
-unfolding reply_text
-returns-in-Done c = wrote_within c.put.ensures (omega arith) (rw c.in-Done.is)
-
-pub returns-in-OutsideRam : goal.returns-in-OutsideRam
-unfolding reply_text
-returns-in-OutsideRam c = wrote_within c.put-in-OutsideRam.ensures (omega arith) (rw c.in-OutsideRam.is)
-
-pub returns-in-Number : goal.returns-in-Number
-unfolding reply_text
-returns-in-Number c = wrote_within (wrote_then c.put_decimal-at.ensures c.put_line_end.ensures) (omega arith) (rw c.in-Number.is)
-
-pub returns-in-Contents : goal.returns-in-Contents
-unfolding reply_text
-returns-in-Contents c = wrote_within (wrote_then c.put_word-at.ensures c.put_line_end-in-Contents.ensures) (omega arith)
-    (rw c.in-Contents.is)
-
-pub returns-in-Walked : goal.returns-in-Walked
-unfolding reply_text
-returns-in-Walked c = wrote_within (wrote_then c.put_answer-at.ensures c.put_line_end-in-Walked.ensures) (omega arith) (rw c.in-Walked.is)
-
-pub returns-in-Frame : goal.returns-in-Frame
-returns-in-Frame c = wrote_within c.put_frame_line.ensures (omega arith) (rw c.in-Frame.is)
-
-pub returns-in-Guest : goal.returns-in-Guest
-unfolding reply_text
-returns-in-Guest c = wrote_within (wrote_then c.put_guest-at.ensures c.put_line_end-in-Guest.ensures) (omega arith) (rw c.in-Guest.is)
+line_of : {a b : ℕ} {m l o k : List ℕ} {at r e q : ℕ} {s t : List ℕ} → Wrote a m at l r s → o ≡ l → e ≡ r
+    → Wrote 1 o e k q (ascii "\n") → a + 1 ≤ b → s ++ ascii "\n" ≡ t → Wrote b m at k q t
+line_of w out end v h is = wrote_within (wrote_then w (rw (out, end) at v)) h is
 
 pub returns-in-Ledger : goal.returns-in-Ledger
-returns-in-Ledger c = wrote_within c.put_whole_ledger.ensures (omega arith) (rw c.in-Ledger.is)
-
-pub returns-in-SetupNeeded : goal.returns-in-SetupNeeded
 unfolding reply_text
-returns-in-SetupNeeded c = wrote_within c.put-in-SetupNeeded.ensures (omega arith) (rw c.in-SetupNeeded.is)
+returns-in-Ledger c =
+    let ready = rw c.in-Ledger.is at c.requires.1 in
+    let rows = size_is c.requires.0 ready in
+    wrote_within (rw (c.ram-in-Ledger.ensures, c.ledger-in-Ledger.ensures) at c.put_ledger.ensures) (omega arith) (rw c.in-Ledger.is)
+
+pub returns : goal.returns
+unfolding reply_text
+returns c = elim c.match-reply.branch [
+  | in-Done w ↦ line_of w.put-end.ensures w.out-is w.end-is c.put.ensures (omega arith) (rw w.in-Done.is)
+  | in-OutsideRam w ↦ line_of w.put-end-in-OutsideRam.ensures w.out-is w.end-is c.put.ensures (omega arith) (rw w.in-OutsideRam.is)
+  | in-Number w ↦ line_of w.put_decimal-end.ensures w.out-is w.end-is c.put.ensures (omega arith) (rw w.in-Number.is)
+  | in-Contents w ↦ line_of w.put_word-end.ensures w.out-is w.end-is c.put.ensures (omega arith) (rw w.in-Contents.is)
+  | in-Walked w ↦ line_of w.put_answer-end.ensures w.out-is w.end-is c.put.ensures (omega arith) (rw w.in-Walked.is)
+  | in-Frame w ↦ line_of w.put_frame-end.ensures w.out-is w.end-is c.put.ensures (omega arith) (rw (w.in-Frame.is, w.ram.ensures, w.ledger.ensures))
+  | in-Guest w ↦ line_of w.put_guest-end.ensures w.out-is w.end-is c.put.ensures (omega arith) (rw w.in-Guest.is)
+  | in-SetupNeeded w ↦ line_of w.put-end-in-SetupNeeded.ensures w.out-is w.end-is c.put.ensures (omega arith) (rw w.in-SetupNeeded.is)
+]
