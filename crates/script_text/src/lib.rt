@@ -5,3 +5,8 @@
 pub mod digits;
 pub mod numbers;
 pub mod words;
+
+// The bases of the numbers that are read and put.
+const DECIMAL: u64 = 10;
+
+const HEXADECIMAL: u64 = 16;

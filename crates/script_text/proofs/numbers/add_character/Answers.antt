@@ -1,41 +1,17 @@
--- By the definition's cases.
+use Rattle.std.proofs.Common.{arith}
+use Rattle.std.proofs.lemmas.Grind.{common_steps}
 use Rattle.script_text.specs.Number.{add_character, add_digit}
-use mathlib.Core.Path.{sym}
-use borrow.Author.Tests.{lt-ltb, lt-leb, le-leb, le-ltb}
+use Rattle.script_text.proofs.Laws.Reading.{digit_read}
 use Rattle.script_text.proofs.numbers.add_character.Goals as goal
 
-pub returns-then-base-d : goal.returns-then-base-d
+pub returns-in_err-d : goal.returns-in_err-d
 unfolding add_character
-returns-then-base-d c = simp (
-  sym c.digit_value-d.ensures,
-  le-leb _ _ c.if-base-d.true,
-  le-ltb _ _ c.if-base-d.true,
-)
+returns-in_err-d c = let e = digit_read c.from.result c.args.base c.to_digit.result c.requires.1 c.to_digit.ensures.value in grind (arith, common_steps, e)
 
-pub returns-in-Value : goal.returns-in-Value
+pub returns-in_err-read : goal.returns-in_err-read
 unfolding add_character add_digit
-returns-in-Value c = simp (
-  sym c.digit_value-d.ensures,
-  lt-ltb _ _ c.if-base-d.false,
-  lt-leb _ _ c.if-base-d.false,
-  c.in-Value.is,
-  sym c.with_digit.ensures,
-)
+returns-in_err-read c = let e = digit_read c.from.result c.args.base c.to_digit.result c.requires.1 c.to_digit.ensures.value in grind (arith, common_steps, e)
 
-pub returns-in-TooLarge : goal.returns-in-TooLarge
+pub returns : goal.returns
 unfolding add_character add_digit
-returns-in-TooLarge c = simp (
-  sym c.digit_value-d.ensures,
-  lt-ltb _ _ c.if-base-d.false,
-  lt-leb _ _ c.if-base-d.false,
-  c.in-TooLarge.is,
-)
-
-pub returns-in-NoNumber : goal.returns-in-NoNumber
-unfolding add_character add_digit
-returns-in-NoNumber c = simp (
-  sym c.digit_value-d.ensures,
-  lt-ltb _ _ c.if-base-d.false,
-  lt-leb _ _ c.if-base-d.false,
-  c.in-NoNumber.is,
-)
+returns c = let e = digit_read c.from.result c.args.base c.to_digit.result c.requires.1 c.to_digit.ensures.value in grind (arith, common_steps, e)
