@@ -21,6 +21,7 @@ fn kind_text(k: FaultKind) -> &'static [u8]
     }
 }
 
+#[tactic(auto, unfolding(crate::specs::Answer::fault_text))]
 fn put_fault(out: &mut [u8], at: usize, k: FaultKind, stage: u64, level: u64) -> usize
     requires { at + fault_bytes ≤ length out.old }
     ensures { Wrote fault_bytes out.old at out.new result (fault_text k stage level) }
@@ -39,6 +40,7 @@ fn put_fetched(out: &mut [u8], at: usize, fetched: u64) -> usize
 }
 
 // A fault of stage 2 while stage 1 was at level `of`.
+#[tactic(auto, unfolding(crate::specs::Answer::during_text))]
 fn put_during(out: &mut [u8], at: usize, k: FaultKind, level: u64, of: u64) -> usize
     requires { at + during_bytes ≤ length out.old }
     ensures { Wrote during_bytes out.old at out.new result (during_text k level of) }
@@ -47,6 +49,7 @@ fn put_during(out: &mut [u8], at: usize, k: FaultKind, level: u64, of: u64) -> u
     put_field(out, next, b" during stage 1 level ", of)
 }
 
+#[tactic(auto, unfolding(crate::specs::Answer::answer_text))]
 pub fn put_answer(out: &mut [u8], at: usize, a: Answer) -> usize
     requires { at + answer_bytes ≤ length out.old }
     ensures { Wrote answer_bytes out.old at out.new result (answer_text a) }
