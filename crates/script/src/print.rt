@@ -57,6 +57,7 @@ pub fn put_reply(out: &mut [u8], reply: Reply, m: Machine, ram: &[u8], ledger: &
 }
 
 // Why a line can't be read.
+#[tactic(auto, unfolding(crate::specs::Printed::mistake_text))]
 pub fn put_mistake(out: &mut [u8], why: Reason) -> usize
     requires { reply_bytes ≤ length out.old }
     ensures { Wrote mistake_bytes out.old 0 out.new result (mistake_text why) }

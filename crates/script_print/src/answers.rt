@@ -40,7 +40,6 @@ fn put_fetched(out: &mut [u8], at: usize, fetched: u64) -> usize
 }
 
 // A fault of stage 2 while stage 1 was at level `of`.
-#[tactic(auto, unfolding(crate::specs::Answer::during_text))]
 fn put_during(out: &mut [u8], at: usize, k: FaultKind, level: u64, of: u64) -> usize
     requires { at + during_bytes ≤ length out.old }
     ensures { Wrote during_bytes out.old at out.new result (during_text k level of) }
