@@ -6,9 +6,9 @@ use std::marker::Model;
 
 // Memory for N bytes; the first `length` are gathered.
 #[derive(Drop)]
-pub struct Buffer<const N: usize> {
-    pub(super) bytes: [u8; N],
-    pub(super) length: usize,
+pub(crate) struct Buffer<const N: usize> {
+    pub(crate) bytes: [u8; N],
+    pub(crate) length: usize,
 }
 
 // Clauses see the bytes that are gathered.
@@ -21,7 +21,7 @@ impl<const N: usize> Model for Buffer<N> {
 }
 
 impl<const N: usize> Buffer<N> {
-    pub fn new() -> Self
+    pub(crate) fn new() -> Self
         ensures { result ≡ [] }
     {
         Buffer {
@@ -30,14 +30,14 @@ impl<const N: usize> Buffer<N> {
         }
     }
 
-    pub fn bytes(&self) -> &[u8]
+    pub(crate) fn bytes(&self) -> &[u8]
         ensures { result.now ≡ self.now }
     {
         &self.bytes[..self.length]
     }
 
     // One byte more; where there is no room, nothing.
-    pub fn push(&mut self, b: u8)
+    pub(crate) fn push(&mut self, b: u8)
         ensures { self.new ≡ take N (self.old ++ b ∷ []) }
     {
         if self.length < N {
@@ -46,14 +46,14 @@ impl<const N: usize> Buffer<N> {
         }
     }
 
-    pub fn clear(&mut self)
+    pub(crate) fn clear(&mut self)
         ensures { self.new ≡ [] }
     {
         self.length = 0;
     }
 
     // Writes the bytes out, and has none left. What can't be written is passed over: the script is run to its end all the same.
-    pub fn write_to<W: Write>(&mut self, output: &mut W)
+    pub(crate) fn write_to<W: Write>(&mut self, output: &mut W)
         ensures { self.new ≡ [] }
     {
         let _written = output.write_all(self.bytes());

@@ -17,7 +17,8 @@ mod words;
 // The machine that `setup` made: RAM is the first `frames` frames of the lent slice, from physical address `base`. No frames: none yet.
 // Ready: the ledger is what `setup` and the operations have made, and no `word` has hit a table since.
 // Stays: `frames: 0` and no Option<Machine>. RAM with no frames has no word and no walk, so each command answers it by its own rule.
-#[derive(Clone, Copy)]
+// Stays: MachineSound in clauses, and RAM and ledger as parameters. A type with them as fields would hold borrowed slices.
+#[derive(Clone, Copy, Default)]
 pub struct Machine {
     pub base: u64,
     pub frames: u64,
@@ -49,11 +50,7 @@ pub struct Outcome {
 pub fn no_machine() -> Machine
     ensures { (result.frames ≡ 0) × (result.base ≡ 0) × (result.ready ≡ false) }
 {
-    Machine {
-        base: 0,
-        frames: 0,
-        ready: false,
-    }
+    Machine::default()
 }
 
 // Carries out a command.

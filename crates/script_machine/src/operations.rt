@@ -40,7 +40,8 @@ fn perform(o: Operation, ram: &mut [u8], ledger: &mut [u32]) -> u64
 }
 
 impl Machine {
-    pub(super) fn operate(self, o: Operation, ram: &mut [u8], ledger: &mut [u32]) -> Outcome
+    // Stays: an `if` of its own and no call of if_ready. Of what a closure leaves in both slices a clause would say more than it saves.
+    pub(crate) fn operate(self, o: Operation, ram: &mut [u8], ledger: &mut [u32]) -> Outcome
         requires { MachineSound self ram.old ledger.old }
         ensures { Executed (Operate o) self ram.old ledger.old ram.new ledger.new result }
     {

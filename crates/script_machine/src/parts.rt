@@ -9,7 +9,7 @@ use ledger::columns::{HEADER_WORDS, ROW_WORDS};
 
 impl Machine {
     // How many bytes its RAM has.
-    pub(super) fn ram_bytes(self) -> usize
+    pub(crate) fn ram_bytes(self) -> usize
         requires { frame_bytes * self.frames < 2 ^ 64 }
         ensures { result ≡ frame_bytes * self.frames }
     {
@@ -17,7 +17,7 @@ impl Machine {
     }
 
     // How many words its ledger has.
-    pub(super) fn ledger_words(self) -> usize
+    pub(crate) fn ledger_words(self) -> usize
         requires { words_for self.frames < 2 ^ 64 }
         ensures { result ≡ words_for self.frames }
     {

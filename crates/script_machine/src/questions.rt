@@ -71,7 +71,7 @@ impl Machine {
     }
 
     // The reply to a question.
-    pub(super) fn reply_to(self, q: Question, ram: &[u8], ledger: &[u32]) -> Reply
+    pub(crate) fn reply_to(self, q: Question, ram: &[u8], ledger: &[u32]) -> Reply
         requires { MachineSound self ram.now ledger.now }
         ensures { result ≡ reply_to q self ram.now ledger.now }
     {

@@ -24,7 +24,7 @@ impl Machine {
             && monitor < self.frames
     }
 
-    pub(super) fn set_up(
+    pub(crate) fn set_up(
         self,
         ram: &mut [u8],
         ledger: &mut [u32],

@@ -61,7 +61,7 @@ impl Machine {
         self.ready && !in_table(self.ledger(ledger), at)
     }
 
-    pub(super) fn store_word(self, ram: &mut [u8], ledger: &[u32], a: u64, v: u64) -> Outcome
+    pub(crate) fn store_word(self, ram: &mut [u8], ledger: &[u32], a: u64, v: u64) -> Outcome
         requires { MachineSound self ram.old ledger.now }
         ensures { Executed (StoreWord a v) self ram.old ledger.now ram.new ledger.now result }
     {
@@ -79,7 +79,7 @@ impl Machine {
         }
     }
 
-    pub(super) fn peek_word(self, ram: &[u8], a: u64) -> Reply
+    pub(crate) fn peek_word(self, ram: &[u8], a: u64) -> Reply
         requires { RamLent self ram.now }
         ensures { result ≡ peek_reply self ram.now a }
     {

@@ -5,16 +5,15 @@ use mathlib.Core.Bool.{Bool, true, false, not, cond, ◌&&◌, ◌||◌}
 use mathlib.Core.List.{List, ◌++◌}
 use native.Mathlib.Omega.{arith}
 use Rattle.std.proofs.Common.{Some, None}
-use lib.Dec.{leb, ltb, eqb}
+use lib.Dec.{leb, ltb}
 use lib.ListN.{length, take, drop}
 use lib.Seq.{length-take-le, length_front, take_at, drop_at, take-set-lt}
-use borrow.Author.Tests.{leb-true, ltb-true, ne_eqb}
+use borrow.Author.Tests.{leb-true, ltb-true}
 use Rattle.memory.specs.Ram.{frame_bytes, ram_fits}
 use Rattle.memory.proofs.Laws.Ram.{RamFits, fits as place_fits, fits_so}
 use Rattle.memory.specs.Word.{stored_at, cleared_at}
 use Rattle.memory.proofs.Laws.Words.{length_kept, cleared_length}
-use Rattle.model.specs.State.{KindOfFrame, monitor, free, table, draining_table, page, draining_page, tabled}
-use Rattle.model.specs.State.{kind_number}
+use Rattle.model.specs.State.{tabled}
 use Rattle.ledger.specs.Layout.{words_for, first_of, kind_of}
 use Rattle.ledger.specs.Sound.{Sound}
 use Rattle.ledger.proofs.Laws.Beside.{word_beside}
@@ -24,10 +23,9 @@ use Rattle.monitor.proofs.Laws.SetUp.{lengths_fit, fits_all}
 use Rattle.script_language.specs.declared.Operation.{Operation}
 use Rattle.script_language.specs.declared.Command.TheVariants.{SetUp, StoreWord, Operate}
 use Rattle.script_machine.specs.declared.Machine.{Machine}
-use Rattle.script_machine.specs.declared.Reply.{Reply}
-use Rattle.script_machine.specs.declared.Reply.TheVariants.{Done, Number, SetupNeeded}
+use Rattle.script_machine.specs.declared.Reply.TheVariants.{Done, Number}
 use Rattle.script_machine.specs.Operations.{operation}
-use Rattle.script_machine.specs.Machine.{word_bytes, RamLent, MachineSound, allowed_of, word_in_ram, word_in_table, ram_of, ledger_of, outcome, machine_of, if_ready, SetupDone, OperationDone, Executed}
+use Rattle.script_machine.specs.Machine.{word_bytes, RamLent, MachineSound, allowed_of, word_in_ram, word_in_table, ram_of, ledger_of, outcome, machine_of, SetupDone, OperationDone, Executed}
 use Rattle.script_machine.proofs.Laws.Parts.{ledger_within}
 use Rattle.script_machine.proofs.Laws.Based.{first_kept, started_so}
 
@@ -77,29 +75,6 @@ allowed lent words n b k e =
       room = leb-true _ _ p2.1;
       fewer = ltb-true _ _ p3.1;
     }
-
--- a frame that holds a table, by the number of what it is
-by_sort : (x : KindOfFrame) → tabled x ≡ (eqb (kind_number x) 2 || eqb (kind_number x) 3)
-by_sort monitor = refl
-by_sort free = refl
-by_sort (table g h p) = refl
-by_sort (draining_table g h p) = refl
-by_sort (page g) = refl
-by_sort (draining_page g) = refl
-
-module _ (l : List ℕ) (f k : ℕ) (e : k ≡ kind_number (kind_of l f)) where
-  pub in_use : k ≡ 2 → true ≡ tabled (kind_of l f)
-  in_use q = sym (by_sort (kind_of l f) ∙ rw (sym e, q))
-
-  pub drains : (k ≡ 2 → ⊥) → eqb k 3 ≡ tabled (kind_of l f)
-  drains ne = sym (by_sort (kind_of l f) ∙ rw (sym e, ne_eqb k 2 ne))
-
-pub if_ready_so : (m : Machine) (x r : Reply) → (m.ready ≡ true → r ≡ x) → (m.ready ≡ false → r ≡ SetupNeeded) → r ≡ if_ready m x
-if_ready_so m x r is_ready not_ready = go m.ready is_ready not_ready
-  where
-    go : (t : Bool) → (t ≡ true → r ≡ x) → (t ≡ false → r ≡ SetupNeeded) → r ≡ cond t x SetupNeeded
-    go true is_ready not_ready = is_ready refl
-    go false is_ready not_ready = not_ready refl
 
 -- a part that was lent is back: it is in its place, and the rest is as it was
 module _ (n : ℕ) (xs ys : List ℕ) (low : n ≤ length xs) (len : length ys ≡ length (take n xs)) where
