@@ -37,6 +37,7 @@ fn reason_text(why: Reason) -> &'static [u8]
 }
 
 // A reply's line, with its end; the whole ledger has a line for each frame.
+#[tactic(auto, unfolding(crate::specs::Printed::reply_text))]
 pub fn put_reply(out: &mut [u8], reply: Reply, m: Machine, ram: &[u8], ledger: &[u32]) -> usize
     requires { (MachineSound m ram.now ledger.now) × (Printable m reply) × (printed_bytes m ≤ length out.old) }
     ensures { Wrote (printed_bytes m) out.old 0 out.new result
