@@ -37,6 +37,7 @@ impl Machine {
     }
 
     // The walk of stage 2 from a guest's root, of a machine that is ready.
+    #[tactic(auto, using(crate::proofs::Laws::Based::translated_so), unfolding(crate::specs::Machine::translate_reply))]
     fn translate(self, ram: &[u8], ledger: &[u32], g: u64, ipa: u64, access: u64) -> Reply
         requires sound { MachineSound self ram.now ledger.now }
         requires ready { self.ready ≡ true }
