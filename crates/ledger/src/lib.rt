@@ -1,5 +1,8 @@
 // The stored ledger of document 03, section 1, in a lent slice outside RAM; specs/Layout.antt tells how it lies there.
 // A function that stores says by Changed what becomes of the state of the two slices, and no caller sees where.
+// Stays: what the contracts ask of a ledger, a frame and a guest (LedgerSound, f < size_of, is_guest g) stands in each of them. A struct
+// with these facts would hold the borrowed slice, and structs are plain values here; a type for a guest's number would ask more of callers
+// than a u64.
 #![tactic(auto)]
 
 ghost use Rattle.std.specs.Prelude.{◌≡◌, ◌≤◌};

@@ -4,6 +4,7 @@
 
 pub mod start;
 
+pub use monitor_contract::refusals;
 pub use monitor_create::create;
 pub use monitor_destroy::destroy;
 pub use monitor_give_take::{give, take};

@@ -6,9 +6,9 @@ ghost use Rattle.model.specs.Entry.{entry, to_table, table_entry, page_entry};
 ghost use Rattle.model.specs.Operations.{page_address};
 ghost use Rattle.monitor_tables.specs.Entries.{ToTable, ToPage, LeadsTo};
 
-// A guest-physical address has 48 bits, so a guest has 2^36 pages, and so has physical memory.
-const ADDRESSES: u64 = 0x1000000000000;
+use memory::{ADDRESS_END, FRAME_BYTES};
 
+// A guest-physical address has 48 bits, so a guest has 2^36 pages, and so has physical memory.
 const PAGE_COUNT: u64 = 0x1000000000;
 
 // An entry that leads nowhere.
@@ -33,26 +33,25 @@ pub const EXECUTE: u64 = 4;
 pub fn is_page_address(a: u64) -> bool
     ensures { result ≡ page_address a }
 {
-    if a % 4096 != 0 {
-        return false;
-    }
-    a < ADDRESSES
+    a % FRAME_BYTES == 0 && a < ADDRESS_END
 }
 
 // The entry that leads to table t.
+#[tactic(auto, unfolding(model::specs::Entry::table_entry))]
 pub fn of_table(first: u64, t: u64) -> u64
     requires { first + t < page_count }
     ensures { result ≡ table_entry first t }
 {
-    (first + t) * 4096 + TABLE_BITS
+    (first + t) * FRAME_BYTES + TABLE_BITS
 }
 
 // The entry that leads to frame f with rights r.
+#[tactic(auto, unfolding(model::specs::Entry::page_entry))]
 pub fn of_page(first: u64, f: u64, r: u64) -> u64
     requires { first + f < page_count }
     ensures { result ≡ page_entry first f r }
 {
-    (first + f) * 4096
+    (first + f) * FRAME_BYTES
         + PAGE_BITS
         + READ_BIT * (r % 2)
         + WRITE_BIT * (r / WRITE % 2)
@@ -60,11 +59,12 @@ pub fn of_page(first: u64, f: u64, r: u64) -> u64
 }
 
 // The table that entry x leads to.
+#[tactic(auto, using(crate::proofs::Laws::Entries::table_there))]
 pub fn table_in(first: u64, x: u64) -> u64
     requires { ToTable first x }
     ensures { entry first x ≡ to_table result }
 {
-    x / 4096 - first
+    x / FRAME_BYTES - first
 }
 
 // The frame that entry x leads to.
@@ -72,5 +72,5 @@ pub fn frame_in(first: u64, x: u64) -> u64
     requires { ToPage first x }
     ensures { LeadsTo first x result }
 {
-    x / 4096 % PAGE_COUNT - first
+    x / FRAME_BYTES % PAGE_COUNT - first
 }

@@ -1,0 +1,44 @@
+// The tests that several operations make: that the guest and the frame that a caller names are there, and that the frame is the guest's
+// page. Each is refused with its own number.
+ghost use Rattle.std.specs.Prelude.{◌<◌, ltb};
+ghost use Rattle.model.specs.State.{is_page_of};
+ghost use Rattle.ledger.specs.Layout.{size_of, exists_of, kind_of};
+ghost use Rattle.ledger.specs.LedgerSound.{LedgerSound};
+ghost use Rattle.monitor_contract.specs.Refusals.{Tested};
+
+use super::refusals::Refusal;
+use ledger::{frame, guest, header};
+
+pub fn guest_exists(ledger: &[u32], g: u64) -> Result<(), Refusal>
+    requires { LedgerSound ledger.now }
+    ensures { Tested (exists_of ledger.now g) Refusal.NoGuest result }
+{
+    if guest::exists(ledger, g) {
+        Ok(())
+    } else {
+        Err(Refusal::NoGuest)
+    }
+}
+
+pub fn frame_exists(ledger: &[u32], f: u64) -> Result<(), Refusal>
+    requires { LedgerSound ledger.now }
+    ensures { Tested (ltb f (size_of ledger.now)) Refusal.NoFrame result }
+{
+    if f < header::size(ledger) {
+        Ok(())
+    } else {
+        Err(Refusal::NoFrame)
+    }
+}
+
+pub fn is_its_page(ledger: &[u32], f: u64, g: u64) -> Result<(), Refusal>
+    requires ledger_sound { LedgerSound ledger.now }
+    requires f_bound { f < size_of ledger.now }
+    ensures { Tested (is_page_of (kind_of ledger.now f) g) Refusal.NotItsPage result }
+{
+    if frame::is_page_of(ledger, f, g) {
+        Ok(())
+    } else {
+        Err(Refusal::NotItsPage)
+    }
+}
