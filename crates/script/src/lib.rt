@@ -10,7 +10,7 @@ ghost use Rattle.script.specs.LineAnswered.{Room, LineAnswered};
 mod print;
 
 use print::{put_mistake, put_reply};
-use script_language::{Command, Line, read_line};
+use script_language::{Command, read_line};
 use script_machine::{Machine, execute};
 
 // The machine after a line, and how many bytes were printed.
@@ -29,7 +29,7 @@ fn answer_command(
     out: &mut [u8],
 ) -> Answered
     requires { (MachineSound m ram.old ledger.old) × (Room (length ram.old) (length out.old)) }
-    ensures { LineAnswered (Line.Asks c) m ram.old ledger.old
+    ensures { LineAnswered (Ok (Some c)) m ram.old ledger.old
         ram.new ledger.new out.new result }
 {
     let o = execute(c, m, ram, ledger);
@@ -52,12 +52,12 @@ pub fn answer_line(
         ram.new ledger.new out.new result }
 {
     match read_line(line) {
-        Line::Empty => Answered {
+        Ok(None) => Answered {
             machine: m,
             printed: 0,
         },
-        Line::Asks(c) => answer_command(c, m, ram, ledger, out),
-        Line::Unreadable(why) => Answered {
+        Ok(Some(c)) => answer_command(c, m, ram, ledger, out),
+        Err(why) => Answered {
             machine: m,
             printed: put_mistake(out, why),
         },

@@ -7,7 +7,6 @@ ghost use Rattle.script_machine.specs.Operations.{operation};
 ghost use Rattle.script_machine.specs.Machine.{MachineSound, Executed};
 
 use super::{Machine, Outcome, Reply};
-use ledger::columns::{HEADER_WORDS, ROW_WORDS};
 use script_language::Operation;
 
 // Calls the monitor.
@@ -40,21 +39,24 @@ fn perform(o: Operation, ram: &mut [u8], ledger: &mut [u32]) -> u64
     }
 }
 
-pub fn operate(o: Operation, m: Machine, ram: &mut [u8], ledger: &mut [u32]) -> Outcome
-    requires { MachineSound m ram.old ledger.old }
-    ensures { Executed (Operate o) m ram.old ledger.old ram.new ledger.new result }
-{
-    if m.ready {
-        let n = (memory::FRAME_BYTES * m.frames) as usize;
-        let w = (HEADER_WORDS + ROW_WORDS * m.frames) as usize;
-        let k = perform(o, &mut ram[..n], &mut ledger[..w]);
-        return Outcome {
-            machine: m,
-            reply: Reply::Number(k),
-        };
-    }
-    Outcome {
-        machine: m,
-        reply: Reply::SetupNeeded,
+impl Machine {
+    // Stays: an `if` of its own and no call of if_ready. Of what a closure leaves in both slices a clause would say more than it saves.
+    pub(crate) fn operate(self, o: Operation, ram: &mut [u8], ledger: &mut [u32]) -> Outcome
+        requires { MachineSound self ram.old ledger.old }
+        ensures { Executed (Operate o) self ram.old ledger.old ram.new ledger.new result }
+    {
+        if self.ready {
+            let n = self.ram_bytes();
+            let w = self.ledger_words();
+            let k = perform(o, &mut ram[..n], &mut ledger[..w]);
+            return Outcome {
+                machine: self,
+                reply: Reply::Number(k),
+            };
+        }
+        Outcome {
+            machine: self,
+            reply: Reply::SetupNeeded,
+        }
     }
 }
