@@ -1,19 +1,44 @@
--- By the stage.
-use Rattle.walk_descriptor.specs.Descriptor.{allows}
-use mathlib.Core.Path.{sym}
-use borrow.Author.Tests.{eq-eqb, ne_eqb}
+-- The definition asks of a number only whether it is one of those that the enums stand for, but for the last: any other is as the last.
+use Prim.Native.Nat.{ℕ, ◌≤◌}
+use mathlib.Core.Path.{◌≡◌, refl, sym, ◌∙◌}
+use lib.Dec.{eqb}
+use borrow.Author.Tests.{ne_eqb}
+use native.Mathlib.Omega.{arith}
+use Rattle.std.specs.Prelude.{Result, Ok, Err}
+use Rattle.std.specs.Result.{result_unwrap_or}
+use Rattle.walk_descriptor.specs.declared.Stage.{Stage}
+use Rattle.walk_descriptor.specs.declared.Stage.TheVariants.{One}
+use Rattle.walk_descriptor.specs.declared.Access.{Access}
+use Rattle.walk_descriptor.specs.declared.Access.TheVariants.{Execute}
+use Rattle.walk_descriptor.specs.declared.ExceptionLevel.{ExceptionLevel}
+use Rattle.walk_descriptor.specs.declared.ExceptionLevel.TheVariants.{El0}
+use Rattle.walk_descriptor.specs.declared.NoSuch.{NoSuch}
+use Rattle.walk_descriptor.specs.Descriptor.{allows, allows_1, allows_2, to_read, to_write, el1}
+use Rattle.walk_descriptor.specs.Numbers.{stage_number, access_number, el_number, IsStage, IsAccess, IsExceptionLevel}
 use Rattle.walk_descriptor.proofs.allowed.Goals as goal
 
-pub returns-then-stage-eq-STAGE_2 : goal.returns-then-stage-eq-STAGE_2
-unfolding allows
-returns-then-stage-eq-STAGE_2 c = simp (
-  eq-eqb _ _ c.if-stage-eq-STAGE_2.true,
-  sym c.allows_stage_2.ensures,
-)
+as_stage : (n : ℕ) (r : Result Stage NoSuch) → IsStage n r → eqb (stage_number (result_unwrap_or r One)) 2 ≡ eqb n 2
+as_stage n (Ok stage) is = rw is
+as_stage n (Err e) is = sym (ne_eqb _ _ (is.2))
+
+as_access : (n : ℕ) (r : Result Access NoSuch) → IsAccess n r → (k : ℕ) → k ≤ to_write
+    → eqb (access_number (result_unwrap_or r Execute)) k ≡ eqb n k
+as_access n (Ok access) is k low = rw is
+as_access n (Err e) is k low = let past = is.1 in ne_eqb _ _ (omega arith) ∙ sym (ne_eqb _ _ (omega arith))
+
+as_el : (n : ℕ) (r : Result ExceptionLevel NoSuch) → IsExceptionLevel n r → eqb (el_number (result_unwrap_or r El0)) el1 ≡ eqb n el1
+as_el n (Ok el) is = rw is
+as_el n (Err e) is = let past = is.1 in sym (ne_eqb _ _ (omega arith))
 
 pub returns : goal.returns
-unfolding allows
+unfolding allows allows_1 allows_2
 returns c = simp (
-  ne_eqb _ _ c.if-stage-eq-STAGE_2.false,
-  sym c.allows_stage_1.ensures,
+  c.allowed_by.ensures,
+  c.unwrap_or.ensures,
+  c.unwrap_or-2.ensures,
+  c.unwrap_or-3.ensures,
+  as_stage c.args.stage c.try_from.result c.try_from.ensures,
+  as_access c.args.access c.try_from-2.result c.try_from-2.ensures to_read (omega arith),
+  as_access c.args.access c.try_from-2.result c.try_from-2.ensures to_write (omega arith),
+  as_el c.args.el c.try_from-3.result c.try_from-3.ensures,
 )
