@@ -1,5 +1,5 @@
 -- Document 01's numbers for a stage, a kind of access and an exception level, and what a number that is read comes to.
-use Rattle.std.specs.Prelude.{ℕ, ◌≡◌, ◌≤◌, ◌≢◌, Result, MatchResult}
+use Rattle.std.specs.Prelude.{ℕ, ◌≡◌, ◌≤◌, ◌≢◌, Bool, Result, MatchResult}
 use Rattle.walk_descriptor.specs.declared.Stage.{Stage}
 use Rattle.walk_descriptor.specs.declared.Stage.TheVariants.{One, Two}
 use Rattle.walk_descriptor.specs.declared.Access.{Access}
@@ -7,7 +7,8 @@ use Rattle.walk_descriptor.specs.declared.Access.TheVariants.{Read, Write, Execu
 use Rattle.walk_descriptor.specs.declared.ExceptionLevel.{ExceptionLevel}
 use Rattle.walk_descriptor.specs.declared.ExceptionLevel.TheVariants.{El0, El1}
 use Rattle.walk_descriptor.specs.declared.NoSuch.{NoSuch}
-use Rattle.walk_descriptor.specs.Descriptor.{to_read, to_write, to_execute, kinds_of_access, el0, el1, exception_levels}
+use Rattle.walk_descriptor.specs.declared.Wanted.{Wanted}
+use Rattle.walk_descriptor.specs.Descriptor.{to_read, to_write, to_execute, kinds_of_access, el0, el1, exception_levels, allows}
 
 abbrev pub stage_number : Stage → ℕ
 stage_number One = 1
@@ -21,6 +22,10 @@ access_number Execute = to_execute
 abbrev pub el_number : ExceptionLevel → ℕ
 el_number El0 = el0
 el_number El1 = el1
+
+-- whether the rights in a descriptor allow what is wanted
+abbrev pub rights_of : Wanted → (d : ℕ) → Bool
+rights_of w = allows (stage_number w.stage) (access_number w.access) (el_number w.el)
 
 -- A number that is read gives what it stands for, or comes back where it stands for nothing.
 abbrev pub IsStage : ℕ → Result Stage NoSuch → Type 0

@@ -3,7 +3,7 @@
 
 ghost use Rattle.std.specs.Prelude.{◌≡◌, ◌||◌};
 ghost use Rattle.walk_descriptor.specs.Descriptor.{is_table as table_of, is_block, is_page, reads_1, writes_1, executes_1, allows_1, allows_2, allows};
-ghost use Rattle.walk_descriptor.specs.Numbers.{access_number, el_number, IsAccess, IsExceptionLevel, stage_number, IsStage};
+ghost use Rattle.walk_descriptor.specs.Numbers.{access_number, el_number, rights_of, IsStage, IsAccess, IsExceptionLevel};
 
 // "Both stages have levels 0 to 3. A table is one frame of 512 descriptors."
 pub const LAST_LEVEL: u64 = 3;
@@ -171,9 +171,20 @@ pub struct Wanted {
 }
 
 impl Wanted {
+    // Of any numbers: one that is no stage is as 1, no kind of access as 2, no exception level as 0.
+    pub fn of_numbers(stage: u64, access: u64, el: u64) -> Wanted
+        ensures { rights_of result ≡ allows stage access el }
+    {
+        Wanted {
+            stage: Stage::try_from(stage).unwrap_or(Stage::One),
+            access: Access::try_from(access).unwrap_or(Access::Execute),
+            el: ExceptionLevel::try_from(el).unwrap_or(ExceptionLevel::El0),
+        }
+    }
+
     #[tactic(auto, unfolding(crate::specs::Descriptor::allows))]
     pub fn allowed_by(self, d: u64) -> bool
-        ensures { result ≡ allows (stage_number self.stage) (access_number self.access) (el_number self.el) d }
+        ensures { result ≡ rights_of self d }
     {
         match self.stage {
             Stage::One => allows_stage_1(self.access, self.el, d),
@@ -182,16 +193,9 @@ impl Wanted {
     }
 }
 
-// Stays: docs/assurance/document-01.md names it, and it answers for every number (`allows`): one that is no stage is as 1, no kind of
-// access as 2, no exception level as 0.
-#[tactic(auto, unfolding(crate::specs::Descriptor::allows))]
+// Stays: docs/assurance/document-01.md names it, and it answers for every number (`allows`).
 pub fn allowed(stage: u64, access: u64, el: u64, d: u64) -> bool
     ensures { result ≡ allows stage access el d }
 {
-    let wanted = Wanted {
-        stage: Stage::try_from(stage).unwrap_or(Stage::One),
-        access: Access::try_from(access).unwrap_or(Access::Execute),
-        el: ExceptionLevel::try_from(el).unwrap_or(ExceptionLevel::El0),
-    };
-    wanted.allowed_by(d)
+    Wanted::of_numbers(stage, access, el).allowed_by(d)
 }
