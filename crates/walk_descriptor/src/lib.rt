@@ -1,9 +1,9 @@
 // Document 01, section 3: of what kind a 64-bit descriptor is at a level, and what its rights allow.
 #![tactic(auto)]
 
-ghost use Rattle.std.specs.Prelude.{◌≡◌, ◌||◌};
+ghost use Rattle.std.specs.Prelude.{ℕ, Bool, ◌≡◌, ◌||◌};
 ghost use Rattle.walk_descriptor.specs.Descriptor.{is_table as table_of, is_block, is_page, reads_1, writes_1, executes_1, allows_1, allows_2, allows};
-ghost use Rattle.walk_descriptor.specs.Numbers.{access_number, el_number, rights_of, IsStage, IsAccess, IsExceptionLevel};
+ghost use Rattle.walk_descriptor.specs.Numbers.{access_number, el_number, stage_1_rights, stage_2_rights, rights_of, IsAccess, IsExceptionLevel};
 
 // "Both stages have levels 0 to 3. A table is one frame of 512 descriptors."
 pub const LAST_LEVEL: u64 = 3;
@@ -32,23 +32,9 @@ pub enum ExceptionLevel {
     El1 = 1,
 }
 
-// A number that is none of these.
+// A number that is no kind of access, or no exception level.
 #[derive(Clone, Copy, PartialEq, Eq)]
 pub struct NoSuch(pub u64);
-
-impl TryFrom<u64> for Stage {
-    type Error = NoSuch;
-
-    ghost try_from_gives = { IsStage };
-
-    fn try_from(number: u64) -> Result<Self, NoSuch> {
-        match number {
-            1 => Ok(Stage::One),
-            2 => Ok(Stage::Two),
-            _ => Err(NoSuch(number)),
-        }
-    }
-}
 
 impl TryFrom<u64> for Access {
     type Error = NoSuch;
@@ -162,12 +148,48 @@ fn allows_stage_1(access: Access, el: ExceptionLevel, d: u64) -> bool
     }
 }
 
-// What a walk of one stage asks for, which the rights in a descriptor allow or not.
+// What is wanted of a descriptor, which the rights in it allow or not. Each stage has a type of its own, so that the code of a walk has no
+// branch on the stage.
+pub trait Rights: Copy {
+    ghost rights_of: { Self → ℕ → Bool };
+
+    fn allowed_by(self, d: u64) -> bool
+        ensures { result ≡ rights_of self d };
+}
+
 #[derive(Clone, Copy)]
-pub struct Wanted {
-    pub stage: Stage,
+pub struct AtStage1 {
     pub access: Access,
     pub el: ExceptionLevel,
+}
+
+impl Rights for AtStage1 {
+    ghost rights_of = { stage_1_rights };
+
+    fn allowed_by(self, d: u64) -> bool {
+        allows_stage_1(self.access, self.el, d)
+    }
+}
+
+// Stage 2 doesn't look at the exception level.
+#[derive(Clone, Copy)]
+pub struct AtStage2 {
+    pub access: Access,
+}
+
+impl Rights for AtStage2 {
+    ghost rights_of = { stage_2_rights };
+
+    fn allowed_by(self, d: u64) -> bool {
+        allows_stage_2(self.access, d)
+    }
+}
+
+// The same where a stage is told by its number.
+#[derive(Clone, Copy)]
+pub enum Wanted {
+    Stage1(AtStage1),
+    Stage2(AtStage2),
 }
 
 impl Wanted {
@@ -175,20 +197,23 @@ impl Wanted {
     pub fn of_numbers(stage: u64, access: u64, el: u64) -> Wanted
         ensures { rights_of result ≡ allows stage access el }
     {
-        Wanted {
-            stage: Stage::try_from(stage).unwrap_or(Stage::One),
-            access: Access::try_from(access).unwrap_or(Access::Execute),
-            el: ExceptionLevel::try_from(el).unwrap_or(ExceptionLevel::El0),
+        let access = Access::try_from(access).unwrap_or(Access::Execute);
+        let el = ExceptionLevel::try_from(el).unwrap_or(ExceptionLevel::El0);
+        if stage == Stage::Two as u64 {
+            Wanted::Stage2(AtStage2 { access })
+        } else {
+            Wanted::Stage1(AtStage1 { access, el })
         }
     }
+}
 
-    #[tactic(auto, unfolding(crate::specs::Descriptor::allows))]
-    pub fn allowed_by(self, d: u64) -> bool
-        ensures { result ≡ rights_of self d }
-    {
-        match self.stage {
-            Stage::One => allows_stage_1(self.access, self.el, d),
-            Stage::Two => allows_stage_2(self.access, d),
+impl Rights for Wanted {
+    ghost rights_of = { rights_of };
+
+    fn allowed_by(self, d: u64) -> bool {
+        match self {
+            Wanted::Stage1(at) => at.allowed_by(d),
+            Wanted::Stage2(at) => at.allowed_by(d),
         }
     }
 }

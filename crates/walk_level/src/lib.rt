@@ -4,13 +4,12 @@
 ghost use Rattle.std.specs.Prelude.{◌≡◌, cond, ◌&&◌, ◌+◌, ◌*◌, ◌-◌, ◌<◌, ◌≤◌, ◌^◌, ◌/◌, ◌%◌, eqb};
 ghost use Rattle.walk_descriptor.specs.declared.FaultKind.TheVariants.{NotModelled, AccessFlag, Permission};
 ghost use Rattle.memory.specs.Ram.{address_end};
-ghost use Rattle.walk_descriptor.specs.Numbers.{rights_of};
 ghost use Rattle.walk_descriptor.specs.Descriptor.{last_level, span as span_of, slot as slot_of, bit, address as address_of, bits_50_to_48, bits_63_to_59, allows};
 ghost use Rattle.walk_level.specs.Stage.{leaf as leaf_of};
 ghost use Rattle.walk_level.specs.Step.{step_rules, step_of};
 ghost use Rattle.walk_level.specs.declared.Step.TheVariants.{Down, Output, Fail};
 
-use walk_descriptor::{FaultKind, Wanted};
+use walk_descriptor::{FaultKind, Rights, Wanted};
 
 // What a descriptor is divided by for the bit of this number.
 const BIT_10: u64 = 0x400;
@@ -86,18 +85,18 @@ fn table(d: u64) -> Step
     }
 }
 
-// What a stage is asked: for the input address `ia`, what is wanted there.
+// What a stage is asked: what is wanted at the input address `ia`.
 #[derive(Clone, Copy)]
-pub struct Asked {
-    pub wanted: Wanted,
+pub struct Asked<R> {
+    pub wanted: R,
     pub ia: u64,
 }
 
-impl Asked {
+impl<R: Rights> Asked<R> {
     // A block or page with the output address `out`.
     fn leaf(self, d: u64, out: u64) -> Step
         ensures { result ≡ cond (eqb (bit 10 d) 0) (Fail AccessFlag)
-            (cond (rights_of self.wanted d) (Output out) (Fail Permission)) }
+            (cond (R.rights_of self.wanted d) (Output out) (Fail Permission)) }
     {
         if d / BIT_10 % 2 == 0 {
             Step::Fail(FaultKind::AccessFlag)
@@ -112,7 +111,7 @@ impl Asked {
     fn block_or_page(self, level: u64, d: u64) -> Step
         requires { level ≤ last_level }
         ensures { result ≡ cond (eqb (bits_50_to_48 d) 0 && eqb (address_of d % span_of level) 0)
-            (leaf_of (step_rules (rights_of self.wanted)) self.ia level d) (Fail NotModelled) }
+            (leaf_of (step_rules (R.rights_of self.wanted)) self.ia level d) (Fail NotModelled) }
     {
         let size = span(level);
         let start = address(d);
@@ -127,7 +126,7 @@ impl Asked {
     #[tactic(auto, unfolding(crate::specs::Step::step_of, crate::specs::Stage::meaning, crate::specs::Stage::valid))]
     pub fn comes_to(self, level: u64, d: u64) -> Step
         requires { level ≤ last_level }
-        ensures { result ≡ step_of (rights_of self.wanted) self.ia level d }
+        ensures { result ≡ step_of (R.rights_of self.wanted) self.ia level d }
     {
         if walk_descriptor::is_table(level, d) {
             table(d)

@@ -81,7 +81,7 @@ pub step_in_bounds : (m : List ℕ) (b : ℕ) (rights : ℕ → Bool) (ia level 
 unfolding step_at
 step_in_bounds m b rights ia level a le = step_read_in_bounds rights ia level le (read_at m b a)
 
-root_low : (root : ℕ) → root_fits root ≡ true → root < address_end
+pub root_low : (root : ℕ) → root_fits root ≡ true → root < address_end
 unfolding root_fits
 root_low root e = ltb-true root address_end (and_right (eqb (root % frame_bytes) 0) (ltb root address_end) e)
 

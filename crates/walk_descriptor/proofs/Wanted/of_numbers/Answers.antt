@@ -2,24 +2,18 @@
 use Prim.Native.Nat.{ℕ, ◌≤◌}
 use mathlib.Core.Path.{◌≡◌, sym, ◌∙◌}
 use lib.Dec.{eqb}
-use borrow.Author.Tests.{ne_eqb}
+use borrow.Author.Tests.{ne_eqb, eq-eqb}
 use native.Mathlib.Omega.{arith}
 use Rattle.std.specs.Prelude.{Result, Ok, Err}
 use Rattle.std.specs.Result.{result_unwrap_or}
-use Rattle.walk_descriptor.specs.declared.Stage.{Stage}
-use Rattle.walk_descriptor.specs.declared.Stage.TheVariants.{One}
 use Rattle.walk_descriptor.specs.declared.Access.{Access}
 use Rattle.walk_descriptor.specs.declared.Access.TheVariants.{Execute}
 use Rattle.walk_descriptor.specs.declared.ExceptionLevel.{ExceptionLevel}
 use Rattle.walk_descriptor.specs.declared.ExceptionLevel.TheVariants.{El0}
 use Rattle.walk_descriptor.specs.declared.NoSuch.{NoSuch}
 use Rattle.walk_descriptor.specs.Descriptor.{allows, allows_1, allows_2, to_read, to_write, el1}
-use Rattle.walk_descriptor.specs.Numbers.{stage_number, access_number, el_number, IsStage, IsAccess, IsExceptionLevel}
+use Rattle.walk_descriptor.specs.Numbers.{access_number, el_number, IsAccess, IsExceptionLevel}
 use Rattle.walk_descriptor.proofs.Wanted.of_numbers.Goals as goal
-
-as_stage : (n : ℕ) (r : Result Stage NoSuch) → IsStage n r → eqb (stage_number (result_unwrap_or r One)) 2 ≡ eqb n 2
-as_stage n (Ok stage) is = rw is
-as_stage n (Err e) is = sym (ne_eqb _ _ (is.2))
 
 as_access : (n : ℕ) (r : Result Access NoSuch) → IsAccess n r → (k : ℕ) → k ≤ to_write
     → eqb (access_number (result_unwrap_or r Execute)) k ≡ eqb n k
@@ -30,14 +24,21 @@ as_el : (n : ℕ) (r : Result ExceptionLevel NoSuch) → IsExceptionLevel n r �
 as_el n (Ok el) is = rw is
 as_el n (Err e) is = let past = is.1 in sym (ne_eqb _ _ (omega arith))
 
-as_wanted : (n m k : ℕ) (s : Result Stage NoSuch) (a : Result Access NoSuch) (e : Result ExceptionLevel NoSuch)
-    → IsStage n s → IsAccess m a → IsExceptionLevel k e → (d : ℕ)
-    → allows (stage_number (result_unwrap_or s One)) (access_number (result_unwrap_or a Execute)) (el_number (result_unwrap_or e El0)) d
-    ≡ allows n m k d
-unfolding allows allows_1 allows_2
-as_wanted n m k s a e is_s is_a is_e d =
-    simp (as_stage n s is_s, as_access m a is_a to_read (omega arith), as_access m a is_a to_write (omega arith), as_el k e is_e)
+module _ (n m k d : ℕ) (a : Result Access NoSuch) (is_a : IsAccess m a) where
+  at_stage_2 : n ≡ 2 → allows_2 (access_number (result_unwrap_or a Execute)) d ≡ allows n m k d
+  unfolding allows allows_2
+  at_stage_2 two = simp (eq-eqb _ _ two, as_access m a is_a to_read (omega arith), as_access m a is_a to_write (omega arith))
 
-pub returns : goal.returns
-returns c = simp (c.unwrap_or.ensures, c.unwrap_or-2.ensures, c.unwrap_or-3.ensures)
-    (λ i d. as_wanted c.args.stage c.args.access c.args.el _ _ _ c.try_from.ensures c.try_from-2.ensures c.try_from-3.ensures d i)
+  at_stage_1 : (n ≡ 2 → ⊥) → (e : Result ExceptionLevel NoSuch) → IsExceptionLevel k e
+      → allows_1 (access_number (result_unwrap_or a Execute)) (el_number (result_unwrap_or e El0)) d ≡ allows n m k d
+  unfolding allows allows_1
+  at_stage_1 one e is_e =
+      simp (ne_eqb _ _ one, as_access m a is_a to_read (omega arith), as_access m a is_a to_write (omega arith), as_el k e is_e)
+
+pub returns-then-stage : goal.returns-then-stage
+returns-then-stage c = simp c.unwrap_or-access.ensures
+    (λ i d. at_stage_2 c.args.stage c.args.access c.args.el d _ c.try_from.ensures c.if-stage.true i)
+
+pub returns-else-stage : goal.returns-else-stage
+returns-else-stage c = simp (c.unwrap_or-access.ensures, c.unwrap_or-el.ensures)
+    (λ i d. at_stage_1 c.args.stage c.args.access c.args.el d _ c.try_from.ensures c.if-stage.false _ c.try_from-2.ensures i)
