@@ -9,7 +9,7 @@ use Rattle.walk_descriptor.specs.declared.AtStage1.{AtStage1}
 use Rattle.walk_descriptor.specs.declared.AtStage2.{AtStage2}
 use Rattle.walk_descriptor.specs.declared.Wanted.{Wanted}
 use Rattle.walk_descriptor.specs.declared.Wanted.TheVariants.{Stage1, Stage2}
-use Rattle.walk_descriptor.specs.Descriptor.{to_read, to_write, to_execute, kinds_of_access, el0, el1, exception_levels, allows_1, allows_2}
+use Rattle.walk_descriptor.specs.Descriptor.{to_read, to_write, to_execute, el0, el1, allows_1, allows_2}
 
 abbrev pub access_number : Access → ℕ
 access_number Read = to_read
@@ -31,9 +31,6 @@ abbrev pub rights_of : Wanted → (d : ℕ) → Bool
 rights_of (Stage1 at) = stage_1_rights at
 rights_of (Stage2 at) = stage_2_rights at
 
--- A number that is read gives what it stands for, or comes back where it stands for nothing.
-abbrev pub IsAccess : ℕ → Result Access NoSuch → Type 0
-IsAccess n r = MatchResult r (λ access. n ≡ access_number access) (λ e. (e.0 ≡ n) × (kinds_of_access ≤ n))
-
-abbrev pub IsExceptionLevel : ℕ → Result ExceptionLevel NoSuch → Type 0
-IsExceptionLevel n r = MatchResult r (λ el. n ≡ el_number el) (λ e. (e.0 ≡ n) × (exception_levels ≤ n))
+-- A number that is read gives what it stands for, or comes back where it is not below `all`, as many as there are.
+abbrev pub Reads : {A : Type 0} → (number_of : A → ℕ) (all n : ℕ) → Result A NoSuch → Type 0
+Reads number_of all n r = MatchResult r (λ x. n ≡ number_of x) (λ e. (e.0 ≡ n) × (all ≤ n))

@@ -2,8 +2,8 @@
 #![tactic(auto)]
 
 ghost use Rattle.std.specs.Prelude.{ℕ, Bool, ◌≡◌, ◌||◌};
-ghost use Rattle.walk_descriptor.specs.Descriptor.{is_table as table_of, is_block, is_page, reads_1, writes_1, executes_1, allows_1, allows_2, allows};
-ghost use Rattle.walk_descriptor.specs.Numbers.{access_number, el_number, stage_1_rights, stage_2_rights, rights_of, IsAccess, IsExceptionLevel};
+ghost use Rattle.walk_descriptor.specs.Descriptor.{kinds_of_access, exception_levels, is_table as table_of, is_block, is_page, reads_1, writes_1, executes_1, allows_1, allows_2, allows};
+ghost use Rattle.walk_descriptor.specs.Numbers.{access_number, el_number, stage_1_rights, stage_2_rights, rights_of, Reads};
 
 // "Both stages have levels 0 to 3. A table is one frame of 512 descriptors."
 pub const LAST_LEVEL: u64 = 3;
@@ -39,7 +39,7 @@ pub struct NoSuch(pub u64);
 impl TryFrom<u64> for Access {
     type Error = NoSuch;
 
-    ghost try_from_gives = { IsAccess };
+    ghost try_from_gives = { Reads access_number kinds_of_access };
 
     fn try_from(number: u64) -> Result<Self, NoSuch> {
         match number {
@@ -54,7 +54,7 @@ impl TryFrom<u64> for Access {
 impl TryFrom<u64> for ExceptionLevel {
     type Error = NoSuch;
 
-    ghost try_from_gives = { IsExceptionLevel };
+    ghost try_from_gives = { Reads el_number exception_levels };
 
     fn try_from(number: u64) -> Result<Self, NoSuch> {
         match number {

@@ -14,7 +14,7 @@ use Rattle.walk_descriptor.specs.declared.ExceptionLevel.{ExceptionLevel}
 use Rattle.walk_descriptor.specs.declared.ExceptionLevel.TheVariants.{El0, El1}
 use Rattle.walk_descriptor.specs.declared.NoSuch.{NoSuch}
 use Rattle.walk_descriptor.specs.Descriptor.{kinds_of_access, exception_levels}
-use Rattle.walk_descriptor.specs.Numbers.{access_number, el_number, IsAccess, IsExceptionLevel}
+use Rattle.walk_descriptor.specs.Numbers.{access_number, el_number, Reads}
 use Rattle.walk.specs.declared.Answer.TheVariants.{Refused}
 use Rattle.walk.specs.Memory.{image_fits}
 use Rattle.walk.specs.Both.{as_answer_2, stage_2, both, root_fits, stage2_fits, both_fits, answer_2, answer}
@@ -40,11 +40,9 @@ is_level : (k : ℕ) (el : ExceptionLevel) → k ≡ el_number el → ltb k exce
 is_level k El0 e = rw e
 is_level k El1 e = rw e
 
-not_read : (k : ℕ) {r : Result Access NoSuch} {e : NoSuch} → IsAccess k r → r ≡ Err e → ltb k kinds_of_access ≡ false
-not_read k is e = le-ltb _ _ (subst (IsAccess k) e is).1
-
-not_level : (k : ℕ) {r : Result ExceptionLevel NoSuch} {e : NoSuch} → IsExceptionLevel k r → r ≡ Err e → ltb k exception_levels ≡ false
-not_level k is e = le-ltb _ _ (subst (IsExceptionLevel k) e is).1
+not_read : {A : Type 0} (number_of : A → ℕ) (all k : ℕ) {r : Result A NoSuch} {e : NoSuch} → Reads number_of all k r → r ≡ Err e
+    → ltb k all ≡ false
+not_read number_of all k is e = le-ltb _ _ (subst (Reads number_of all k) e is).1
 
 module _ (m : List ℕ) (b n : ℕ) where
   module _ (root ipa access : ℕ) where
@@ -72,9 +70,9 @@ module _ (m : List ℕ) (b n : ℕ) where
     unfolding answer_2
     unfit_2 e = simp (fits_2, e, and_false)
 
-    pub unread_2 : {r : Result Access NoSuch} {e : NoSuch} → IsAccess access r → r ≡ Err e → Refused ≡ answer_2 m b n root ipa access
+    pub unread_2 : {r : Result Access NoSuch} {e : NoSuch} → Reads access_number kinds_of_access access r → r ≡ Err e → Refused ≡ answer_2 m b n root ipa access
     unfolding answer_2
-    unread_2 is e = simp (fits_2, not_read access is e)
+    unread_2 is e = simp (fits_2, not_read access_number kinds_of_access access is e)
 
     pub asked_2 : (a : Access) → access ≡ access_number a → fit_2 ≡ true
         → with_count as_answer_2 0 (stage_2 m b root (access_number a) ipa) ≡ answer_2 m b n root ipa access
@@ -110,15 +108,15 @@ module _ (m : List ℕ) (b n : ℕ) where
     unfolding answer
     unfit e = simp (fits, e, and_false)
 
-    pub unread : {r : Result Access NoSuch} {e : NoSuch} → IsAccess access r → r ≡ Err e
+    pub unread : {r : Result Access NoSuch} {e : NoSuch} → Reads access_number kinds_of_access access r → r ≡ Err e
         → Refused ≡ answer m b n root1 root2 va access el
     unfolding answer
-    unread is e = simp (fits, not_read access is e)
+    unread is e = simp (fits, not_read access_number kinds_of_access access is e)
 
-    pub no_level : {r : Result ExceptionLevel NoSuch} {e : NoSuch} → IsExceptionLevel el r → r ≡ Err e
+    pub no_level : {r : Result ExceptionLevel NoSuch} {e : NoSuch} → Reads el_number exception_levels el r → r ≡ Err e
         → Refused ≡ answer m b n root1 root2 va access el
     unfolding answer
-    no_level is e = simp (fits, not_level el is e, and_false)
+    no_level is e = simp (fits, not_read el_number exception_levels el is e, and_false)
 
     pub asked : (a : Access) → access ≡ access_number a → (l : ExceptionLevel) → el ≡ el_number l → fit ≡ true
         → answered 0 (both m b root1 root2 va (access_number a) (el_number l)) ≡ answer m b n root1 root2 va access el
