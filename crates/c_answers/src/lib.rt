@@ -78,6 +78,7 @@ fn numbers_of_guest(guest: GuestKind) -> [u64; GUEST_NUMBERS]
     }
 }
 
+// Stays: the status is a number, since C is given it (`Tells` of specs/Answers), and so is what numbers.rt has.
 fn tell<const N: usize>(out: &mut [u64], numbers: [u64; N]) -> u64
     ensures { Tells N numbers.entry out.old result out.new }
 {

@@ -17,6 +17,7 @@ mod stage_2;
 pub use walk_descriptor::FaultKind;
 
 // `fetched` is the number of descriptors that were read.
+// Stays: the stage is a number, since the definitions (`as_answer` of specs/Both) and the theorems on this type say it as one.
 #[derive(Clone, Copy)]
 pub enum Answer {
     Found {
@@ -68,6 +69,7 @@ fn fits_both(len: usize, base: u64, frames: u64, root1: u64, root2: u64) -> bool
 }
 
 // Stage 2 alone: access is 0 to read, 1 to write, 2 to execute.
+// Stays: this and both_stages take numbers, since C gives any, and `answer_2` and `answer` say which are refused.
 pub fn stage2(ram: &[u8], base: u64, frames: u64, root: u64, ipa: u64, access: u64) -> Answer
     ensures { result ≡ answer_2 ram.now base frames root ipa access }
 {
