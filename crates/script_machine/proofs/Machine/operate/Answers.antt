@@ -8,4 +8,5 @@ returns-then-self c =
     let x = rw (c.ram_bytes-n.ensures, c.ledger_words-w.ensures) at c.perform-answer.ensures in
     let a = rw c.ram_bytes-n.ensures at c.perform-answer.auto.ram in
     let b = rw c.ledger_words-w.ensures at c.perform-answer.auto.ledger in
-    rw (c.ram_bytes-n.ensures, c.ledger_words-w.ensures, c.number.ensures) (operated _ _ _ _ c.requires c.if-self.true _ _ _ _ _ x a b refl refl)
+    rw (c.ram_bytes-n.ensures, c.ledger_words-w.ensures, c.number.ensures)
+    (operated _ _ _ _ c.requires c.if-self.true _ _ _ _ _ x a b refl refl)
