@@ -2,17 +2,19 @@
 ghost use Rattle.std.specs.Prelude.{◌≡◌};
 ghost use Rattle.ledger.specs.Sound.{Sound};
 ghost use Rattle.monitor.specs.Answers.{Answers};
+ghost use Rattle.monitor.specs.Refusals.{answer_number};
 ghost use Rattle.script_language.specs.declared.Command.TheVariants.{Operate};
 ghost use Rattle.script_machine.specs.Operations.{operation};
 ghost use Rattle.script_machine.specs.Machine.{MachineSound, Executed};
 
 use super::{Machine, Outcome, Reply};
+use monitor::refusals::{self, Refusal};
 use script_language::Operation;
 
 // Calls the monitor.
-fn perform(o: Operation, ram: &mut [u8], ledger: &mut [u32]) -> u64
+fn perform(o: Operation, ram: &mut [u8], ledger: &mut [u32]) -> Result<(), Refusal>
     requires { Sound ram.old ledger.old }
-    ensures { Answers (operation o) ram.old ledger.old result ram.new ledger.new }
+    ensures { Answers (operation o) ram.old ledger.old (answer_number result) ram.new ledger.new }
 {
     match o {
         Operation::Create { guest } => monitor::create(ram, ledger, guest),
@@ -48,10 +50,10 @@ impl Machine {
         if self.ready {
             let n = self.ram_bytes();
             let w = self.ledger_words();
-            let k = perform(o, &mut ram[..n], &mut ledger[..w]);
+            let answer = perform(o, &mut ram[..n], &mut ledger[..w]);
             return Outcome {
                 machine: self,
-                reply: Reply::Number(k),
+                reply: Reply::Number(refusals::number(answer)),
             };
         }
         Outcome {

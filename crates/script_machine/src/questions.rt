@@ -7,10 +7,8 @@ ghost use Rattle.script_machine.specs.Machine.{RamLent, MachineSound, ram_of, le
 
 use super::{Machine, Reply};
 use ledger::guest;
+use monitor::refusals::Refusal;
 use script_language::Question;
-
-// Document 03, section 2.
-const NO_SUCH_GUEST: u64 = 5;
 
 impl Machine {
     fn walk_stage2(self, ram: &[u8], root: u64, ipa: u64, access: u64) -> Reply
@@ -47,7 +45,7 @@ impl Machine {
         if guest::exists(rows, g) {
             return Reply::Walked(monitor_query::translation(self.ram(ram), rows, g, ipa, access));
         }
-        Reply::Number(NO_SUCH_GUEST)
+        Reply::Number(u64::from(Refusal::NoGuest))
     }
 
     // What a guest is, of a machine that is ready.

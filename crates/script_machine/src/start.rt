@@ -6,9 +6,7 @@ ghost use Rattle.script_language.specs.declared.Command.TheVariants.{SetUp};
 ghost use Rattle.script_machine.specs.Machine.{MachineSound, allowed_of, Executed};
 
 use super::{Machine, Outcome, Reply};
-
-// Document 03, section 2.
-const OUT_OF_RANGE: u64 = 4;
+use monitor::refusals::{self, Refusal};
 
 impl Machine {
     // Document 01, section 1, and no more frames and words of a ledger than the slices have.
@@ -45,7 +43,7 @@ impl Machine {
         if !machine.is_allowed(lent, ledger.len(), monitor) {
             return Outcome {
                 machine: self,
-                reply: Reply::Number(OUT_OF_RANGE),
+                reply: Reply::Number(u64::from(Refusal::NoFrame)),
             };
         }
         let n = machine.ram_bytes();
@@ -54,7 +52,7 @@ impl Machine {
         let answer = monitor::start::set_up(&ram[..n], &mut ledger[..w], base, frames, monitor);
         Outcome {
             machine,
-            reply: Reply::Number(answer),
+            reply: Reply::Number(refusals::number(answer)),
         }
     }
 }

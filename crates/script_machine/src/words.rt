@@ -8,7 +8,8 @@ ghost use Rattle.script_language.specs.declared.Command.TheVariants.{StoreWord};
 ghost use Rattle.script_machine.specs.Machine.{word_bytes, RamLent, MachineSound, word_in_ram, word_in_table, peek_reply, Executed};
 
 use super::{Machine, Outcome, Reply};
-use ledger::{frame, kinds};
+use ledger::frame;
+use ledger::kinds::Kind;
 
 const WORD_BYTES: u64 = 8;
 
@@ -18,8 +19,7 @@ fn holds_table(ledger: &[u32], f: u64) -> bool
     requires f_bound { f < size_of ledger.now }
     ensures { result ≡ tabled (kind_of ledger.now f) }
 {
-    let k = frame::kind(ledger, f);
-    k == kinds::TABLE || k == kinds::DRAINING_TABLE
+    matches!(frame::kind(ledger, f), Kind::Table | Kind::DrainingTable)
 }
 
 // A word may lie in two frames.

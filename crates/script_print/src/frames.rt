@@ -5,9 +5,11 @@ ghost use Rattle.script_text.specs.Digits.{most_digits};
 ghost use Rattle.model.specs.State.{guests};
 ghost use Rattle.ledger.specs.Layout.{size_of, state_of};
 ghost use Rattle.ledger.specs.Sound.{Sound};
+ghost use Rattle.ledger.specs.Kinds.{share_code};
 ghost use Rattle.monitor_query.specs.Questions.{share_told};
 ghost use Rattle.script_print.specs.Frame.{listed_guest_bytes, guest_list_bytes, frame_text_bytes, line_bytes, listed_guest_text, guest_list_to, guest_list_text, page_text, frame_text, line_text, ledger_text};
 
+use ledger::frame::Shared;
 use ledger::header;
 use monitor_query::{FrameKind, shared_with, what_frame};
 use script_text::digits::{put, put_decimal, put_field};
@@ -24,22 +26,17 @@ fn put_listed_guest(out: &mut [u8], at: usize, first: bool, g: u64) -> usize
     put_field(out, at, b",", g)
 }
 
-// What is shared of a frame with a guest: nothing, FOR_READING, or FOR_WRITING too.
-const FOR_READING: u64 = 1;
-
-const FOR_WRITING: u64 = 2;
-
 // The guests that as much as `least` of frame f is shared with.
 #[tactic(auto, unfolding(crate::specs::Frame::guest_list_to))]
-fn put_guests(out: &mut [u8], at: usize, ram: &[u8], ledger: &[u32], f: u64, least: u64) -> usize
+fn put_guests(out: &mut [u8], at: usize, ram: &[u8], ledger: &[u32], f: u64, least: Shared) -> usize
     requires sound { Sound ram.now ledger.now }
     requires most_digits_in_bounds { at + guest_list_bytes + most_digits ≤ length out.old }
     ensures { Wrote guest_list_bytes out.old at out.new result
-        (guest_list_to least (share_told (state_of ram.now ledger.now) f) guests) }
+        (guest_list_to (share_code least) (share_told (state_of ram.now ledger.now) f) guests) }
 {
     let mut next = at;
     for g in 1..=ledger::GUESTS {
-        if least <= shared_with(ram, ledger, f, g) {
+        if u64::from(least) <= shared_with(ram, ledger, f, g) {
             next = put_listed_guest(out, next, next == at, g);
         }
     }
@@ -54,12 +51,12 @@ fn put_guest_list(
     ram: &[u8],
     ledger: &[u32],
     f: u64,
-    least: u64,
+    least: Shared,
 ) -> usize
     requires sound { Sound ram.now ledger.now }
     requires most_digits_in_bounds { at + guest_list_bytes + most_digits ≤ length out.old }
     ensures { Wrote guest_list_bytes out.old at out.new result
-        (guest_list_text least (share_told (state_of ram.now ledger.now) f)) }
+        (guest_list_text (share_code least) (share_told (state_of ram.now ledger.now) f)) }
 {
     let next = put_guests(out, at, ram, ledger, f, least);
     if next == at {
@@ -86,9 +83,9 @@ fn put_page(
 {
     let owned = put_field(out, at, b"page ", owner);
     let readers = put(out, owned, b" readers ");
-    let read = put_guest_list(out, readers, ram, ledger, f, FOR_READING);
+    let read = put_guest_list(out, readers, ram, ledger, f, Shared::Reading);
     let writers = put(out, read, b" writers ");
-    let written = put_guest_list(out, writers, ram, ledger, f, FOR_WRITING);
+    let written = put_guest_list(out, writers, ram, ledger, f, Shared::Writing);
     put_field(out, written, b" mapped ", mapped)
 }
 

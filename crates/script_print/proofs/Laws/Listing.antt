@@ -32,17 +32,14 @@ module _ (least : ℕ) (shares : ℕ → ℕ) {m l : List ℕ} {at next : ℕ} (
   pub list_passed : {x : ℕ} → x ≡ shares g → x < least → Wrote (listed_guest_bytes * g) m at l next (guest_list_to least shares g)
   unfolding guest_list_to
   list_passed e h =
-      wrote_within w (omega arith) (rw (sym one, add-one k, lt-leb least (shares (suc k)) (subst (λ (n : ℕ). n < least) (e ∙ ap shares (sym one ∙ add-one k)) h)))
+      let less : shares (suc k) < least = subst (λ (n : ℕ). n < least) (e ∙ ap shares (sym one ∙ add-one k)) h in
+      wrote_within w (omega arith) (rw (sym one, add-one k, lt-leb least (shares (suc k)) less))
 
   pub list_more : {x : ℕ} {o : List ℕ} {r : ℕ} → x ≡ shares g → least ≤ x
       → Wrote listed_guest_bytes l next o r (listed_guest_text (eqb next at) g)
       → Wrote (listed_guest_bytes * g) m at o r (guest_list_to least shares g)
   unfolding guest_list_to
   list_more e h v =
+      let enough : least ≤ shares (suc k) = subst (λ (n : ℕ). least ≤ n) (e ∙ ap shares (sym one ∙ add-one k)) h in
       wrote_within (wrote_then w v) (omega arith)
-      (rw (
-        sym one,
-        add-one k,
-        le-leb least (shares (suc k)) (subst (λ (n : ℕ). least ≤ n) (e ∙ ap shares (sym one ∙ add-one k)) h),
-        first_here at _ next w.next,
-      ))
+      (rw (sym one, add-one k, le-leb least (shares (suc k)) enough, first_here at _ next w.next))

@@ -11,4 +11,4 @@ returns c =
     let x = rw (c.ram_bytes-n.ensures, c.ledger_words-w.ensures) at c.set_up-answer.ensures in
     let a = rw c.ledger_words-w.ensures at c.set_up-answer.auto.ledger in
     let e : c.is_allowed.result ≡ true = grind arith in
-    rw c.ledger_words-w.ensures (begun _ _ _ _ _ _ (sym c.is_allowed.ensures.allowed ∙ e) _ _ _ _ z x a refl)
+    rw (c.ledger_words-w.ensures, c.number.ensures) (begun _ _ _ _ _ _ (sym c.is_allowed.ensures.allowed ∙ e) _ _ _ _ z x a refl)
