@@ -51,15 +51,10 @@ after_blanks_at (c ∷ l) = from_place (not (is_blank c)) _ c l (after_blanks_at
     exchanged true = refl
     exchanged false = refl
 
-pub leading_word_at : (l : List ℕ) → take (position_or_len is_blank l) l ≡ leading_word l
-unfolding leading_word
-leading_word_at [] = refl
-leading_word_at (c ∷ l) = before_place (is_blank c) _ c l (leading_word_at l)
-
-pub after_word_at : (l : List ℕ) → drop (position_or_len is_blank l) l ≡ after_word l
-unfolding after_word
-after_word_at [] = refl
-after_word_at (c ∷ l) = from_place (is_blank c) _ c l (after_word_at l)
+pub word_at : (l : List ℕ) → (take (position_or_len is_blank l) l ≡ leading_word l) × (drop (position_or_len is_blank l) l ≡ after_word l)
+unfolding leading_word after_word
+word_at [] = (refl, refl)
+word_at (c ∷ l) = (before_place (is_blank c) _ c l (word_at l).0, from_place (is_blank c) _ c l (word_at l).1)
 
 module _ (s : List ℕ) (from : ℕ) {n : ℕ} {r : Option ℕ} (h : from ≤ length s)
     (e : n ≡ unwrap_or r (length (take (length s - from) (drop from s)))) where
@@ -82,8 +77,8 @@ module _ (s : List ℕ) (from : ℕ) {n : ℕ} {r : Option ℕ} (h : from ≤ le
       record {
         later = omega arith;
         inside = inside_from _ k;
-        word = rw i (ap (λ (i : ℕ). take i (drop from s)) (place_from _ k) ∙ leading_word_at (drop from s));
-        after = sym (drop-drop n from s) ∙ ap (λ (i : ℕ). drop i (drop from s)) (place_from _ k) ∙ after_word_at (drop from s);
+        word = rw i (ap (λ (i : ℕ). take i (drop from s)) (place_from _ k) ∙ (word_at (drop from s)).0);
+        after = sym (drop-drop n from s) ∙ ap (λ (i : ℕ). drop i (drop from s)) (place_from _ k) ∙ (word_at (drop from s)).1;
       }
 
 -- where the text ends: at a comment, and before a carriage return that is the line's last byte
