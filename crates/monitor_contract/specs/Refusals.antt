@@ -1,4 +1,5 @@
--- Document 03, section 2: the number of each refusal, as the operations' definitions answer it; and of an answer: 0 where nothing is refused.
+-- Document 03, section 2: the number of each refusal, as the operations' definitions answer it; and of an answer, which is 0 where nothing
+-- is refused.
 use Rattle.std.specs.Prelude.{◌≡◌, Bool, true, false, ℕ, Result, Ok, Err}
 use Rattle.monitor_contract.specs.declared.refusals.Refusal.{Refusal}
 use Rattle.monitor_contract.specs.declared.refusals.Refusal.TheVariants.{NoGuestNumber, GuestExists, NoFreeFrames, NoFrame, NoGuest, NotFree, NoPageAddress, NoRights, NotItsPage, MappedAlready, NotMapped, WithItself, StillUsed, Dirty}

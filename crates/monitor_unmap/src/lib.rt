@@ -24,7 +24,7 @@ pub struct Slot {
     pub frame: u64,
 }
 
-#[tactic(auto, using(model::proofs::Invariant::MapUnmap::address_low, monitor_tables::proofs::Laws::Way::way_words), unfolding(model::specs::Operations::unmap, model::specs::Operations::check, ledger::specs::Layout::state_in))]
+#[tactic(auto, using(crate::proofs::Laws::Unmap::plans), unfolding(model::specs::Operations::unmap, model::specs::Operations::check, ledger::specs::Layout::state_in))]
 fn plan_unmap(ram: &[u8], ledger: &[u32], a: u64, g: u64) -> Result<Slot, Refusal>
     requires { Sound ram.now ledger.now }
     ensures { IsUnmapPlan (state_of ram.now ledger.now) a g result }

@@ -20,7 +20,7 @@ use Rattle.model.specs.Invariant.{May}
 use Rattle.model.proofs.Invariant.Core.{low}
 use Rattle.model.proofs.Invariant.Counts.{places_zero}
 use Rattle.model.proofs.Invariant.Way.{translate_at}
-use Rattle.model.proofs.Invariant.MapUnmap.{without_is, unmap_good}
+use Rattle.model.proofs.Invariant.MapUnmap.{without_is, unmap_good, address_low}
 use Rattle.ledger.specs.Columns.{SHARE_UNIT, GUEST_ROWS}
 use Rattle.ledger.proofs.Laws.Fields.{guest_low}
 use Rattle.ledger.specs.Layout.{size_of, first_of, exists_of, kind_of, count_of, word_of, state_in, state_of}
@@ -34,7 +34,7 @@ use Rattle.monitor_contract.specs.Answers.{Done}
 use Rattle.monitor_contract.proofs.Laws.Answers.{good_done}
 use Rattle.monitor_tables.specs.Entries.{ToPage, LeadsTo}
 use Rattle.monitor_tables.specs.Way.{Ended}
-use Rattle.monitor_tables.proofs.Laws.Way.{mapped_shows, last_serves, last_leaf}
+use Rattle.monitor_tables.proofs.Laws.Way.{way_words, mapped_shows, last_serves, last_leaf}
 use Rattle.model.specs.Machine.{Unmap, answer}
 use Rattle.model.proofs.Invariant.Answer.{then_is}
 use Rattle.model.proofs.Invariant.Effects.{rows}
@@ -164,3 +164,6 @@ module _ {m l m' l' : List ℕ} (ok : Sound m l) where
 
     pub unmap_found : Finds g a none m' l'
     unmap_found = finds_asked m' l' d.sound g a none (after_unmap (state_of m l) ok.core g a (state_of m' l') d.made)
+
+-- what the plan asks on its way: the page's number fits, and the table that the way comes to lies in RAM
+pub ruleset plans = (address_low, way_words)
