@@ -8,8 +8,8 @@ use crate::{Command, MOST_ARGUMENTS, Reason};
 use script_text::numbers::number;
 use script_text::words::{word_end, word_start};
 
-// A name's number is its place. Stays: the kinds of access and the levels are the numbers that `walk::stage2` and `walk::both` take,
-// which may be given any number.
+// A name's number is its place.
+// Stays: a question holds the kind of access and the level as numbers, since `walk::stage2` and `walk::both` take them so, and any number.
 const ACCESS_NAMES: [&[u8]; 3] = [b"r", b"w", b"x"];
 
 const LEVEL_NAMES: [&[u8]; 2] = [b"el0", b"el1"];
@@ -34,6 +34,7 @@ fn read_argument(form: Form, w: &[u8]) -> Result<u64, Reason>
 }
 
 // The words after the first, read as the command wants them.
+#[tactic(auto, using(crate::proofs::Laws::Parsing::readings))]
 pub fn read_arguments(name: CommandName, forms: &[Form], s: &[u8]) -> Result<Command, Reason>
     requires { length forms.now ≤ most_arguments }
     ensures { result ≡ read_from name (values_of forms.now s.now) }

@@ -147,6 +147,7 @@ fn read_command(word: &[u8], s: &[u8]) -> Result<Command, Reason>
 }
 
 // The words of a line's text.
+#[tactic(auto, using(crate::proofs::Laws::Parsing::no_word))]
 fn read_words(s: &[u8]) -> Result<Option<Command>, Reason>
     ensures { result ≡ read_words (after_blanks s.now) }
 {

@@ -49,7 +49,7 @@ unfoldable pub number_of : List ℕ → Read
 number_of s = cond (starts_with_0x s) (read_numeral 16 (drop 2 s)) (read_numeral 10 s)
 
 -- the same character by character, as the code reads: n with the digit d more
-unfoldable pub add_digit : ℕ → ℕ → Read → Read
+abbrev pub add_digit : ℕ → ℕ → Read → Read
 add_digit b d (Ok v) = value_or_too_large (v * b + d)
 add_digit b d (Err e) = Err e
 

@@ -63,6 +63,7 @@ fn put_number(out: &mut [u8], at: usize, n: u64, base: u64) -> usize
     put(out, at, &digits[zeros..])
 }
 
+#[tactic(auto, unfolding(crate::specs::Digits::decimal_of))]
 pub fn put_decimal(out: &mut [u8], at: usize, n: u64) -> usize
     requires { at + most_digits ≤ length out.old }
     ensures { Wrote most_digits out.old at out.new result (decimal_of n) }
@@ -70,6 +71,7 @@ pub fn put_decimal(out: &mut [u8], at: usize, n: u64) -> usize
     put_number(out, at, n, DECIMAL)
 }
 
+#[tactic(auto, using(crate::proofs::Laws::Printing::wrote_then), unfolding(crate::specs::Digits::hex_of))]
 pub fn put_hex(out: &mut [u8], at: usize, n: u64) -> usize
     requires { at + (2 + most_digits) ≤ length out.old }
     ensures { Wrote (2 + most_digits) out.old at out.new result (hex_of n) }
@@ -79,6 +81,7 @@ pub fn put_hex(out: &mut [u8], at: usize, n: u64) -> usize
 }
 
 // Sixteen digits.
+#[tactic(auto, using(crate::proofs::Laws::Printing::one_after_another), unfolding(crate::specs::Digits::sixteen_digits_of))]
 pub fn put_word(out: &mut [u8], at: usize, n: u64) -> usize
     requires { at + (2 + word_digits) ≤ length out.old }
     ensures { Wrote (2 + word_digits) out.old at out.new result (sixteen_digits_of n) }
@@ -89,6 +92,7 @@ pub fn put_word(out: &mut [u8], at: usize, n: u64) -> usize
 }
 
 // A label and a number.
+#[tactic(auto, using(crate::proofs::Laws::Printing::wrote_then))]
 pub fn put_field(out: &mut [u8], at: usize, label: &[u8], n: u64) -> usize
     requires { at + length label.now + most_digits ≤ length out.old }
     ensures { Wrote (length label.now + most_digits) out.old at out.new result

@@ -12,6 +12,7 @@ pub enum NumberError {
 }
 
 // The number v * base + d, where that fits.
+#[tactic(auto, unfolding(crate::specs::Number::value_or_too_large))]
 fn with_digit(v: u64, base: u64, d: u32) -> Result<u64, NumberError>
     ensures { result ≡ value_or_too_large (v * base + d) }
 {
@@ -21,6 +22,7 @@ fn with_digit(v: u64, base: u64, d: u32) -> Result<u64, NumberError>
 }
 
 // What was read, and one character more.
+#[tactic(auto, using(crate::proofs::Laws::Reading::digit_read), unfolding(crate::specs::Number::add_character))]
 fn add_character(read: Result<u64, NumberError>, base: u64, c: u8) -> Result<u64, NumberError>
     requires { (2 ≤ base) × (base ≤ 16) }
     ensures { result ≡ add_character base c read }
@@ -32,7 +34,7 @@ fn add_character(read: Result<u64, NumberError>, base: u64, c: u8) -> Result<u64
 }
 
 // The number that s spells in a base, digit by digit.
-#[tactic(auto, unfolding(crate::specs::Number::read_numeral))]
+#[tactic(auto, using(crate::proofs::Laws::Reading::readings), unfolding(crate::specs::Number::read_numeral))]
 fn read_numeral(s: &[u8], base: u64) -> Result<u64, NumberError>
     requires { (2 ≤ base) × (base ≤ 16) }
     ensures { result ≡ read_numeral base s.now }

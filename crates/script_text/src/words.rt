@@ -22,7 +22,6 @@ fn is_text_byte(c: u8) -> bool
     c == TAB || (b' '..DELETE).contains(&c)
 }
 
-#[tactic(auto, using(crate::proofs::Laws::Scanning::all_text))]
 pub fn is_text(s: &[u8]) -> bool
     ensures { result ≡ is_text s.now }
 {

@@ -36,7 +36,12 @@ pub named_at : (w : List ℕ) (l : List (Bor (List ℕ))) (why : Reason) {r : Op
     → ok_or r why ≡ named_argument w (map (λ (x : Bor (List ℕ)). x.now) l) why
 unfolding named_argument
 named_at w l why e =
-    rw (e, chosen (nat_lt (position_or_len (is_name w) l) (length l)) (position_or_len (is_name w) l) why, index_at w l, length-map l (λ (x : Bor (List ℕ)). x.now)) refl
+    rw (
+      e,
+      chosen (nat_lt (position_or_len (is_name w) l) (length l)) (position_or_len (is_name w) l) why,
+      index_at w l,
+      length-map l (λ (x : Bor (List ℕ)). x.now),
+    ) refl
 
 -- a row of the code's table: what it names, and what follows the word
 
@@ -101,7 +106,11 @@ module _ (w : List ℕ) (rows : List Row) (t : IsTable rows) (r : Option (Bor Ro
     is_row = sym (rw h at f)
 
     pub row_forms : x.now.2.now ≡ forms_of (command_numbers x.now.1) (access_and_level x.now.1)
-    row_forms = each_row (λ (x : Row). x.2.now) (λ (x : Row). forms_of (command_numbers x.1) (access_and_level x.1)) (is_word w) rows x.now t.forms is_row
+    row_forms =
+        each_row (λ (x : Row). x.2.now) (λ (x : Row). forms_of (command_numbers x.1) (access_and_level x.1)) (is_word w) rows x.now t.forms
+        is_row
 
     pub row_few : length x.now.2.now ≤ most_arguments
-    row_few = leb-true _ _ (each_row (λ (x : Row). nat_le (length x.2.now) most_arguments) (λ (x : Row). true) (is_word w) rows x.now t.few is_row)
+    row_few =
+        leb-true _ _
+        (each_row (λ (x : Row). nat_le (length x.2.now) most_arguments) (λ (x : Row). true) (is_word w) rows x.now t.few is_row)

@@ -86,7 +86,7 @@ wrong_word v {fs} {s} {a} {at} {i} {from} {to} {x} {r} p h le some u w e k =
     rw (p.so_far, values_at fs i s at from to x h le some u w e, k)
 
 pub reading_more : {fs : List Form} {s a : List ℕ} {at i from to : ℕ} {x : Result ℕ Reason} {n : ℕ}
-    → Reading fs s a at i → i < length fs → i < most_arguments
+    → Reading fs s a at i → i < length fs → length fs ≤ most_arguments
     → from ≤ length s → (from ≡ length s → ⊥)
     → drop from s ≡ after_blanks (drop at s) → WordEnds s from to
     → x ≡ read_argument (get_or fs i Number) (take (to - from) (drop from s)) → x ≡ Ok n
@@ -110,11 +110,11 @@ last_at : (fs : List Form) (i : ℕ) (s : List ℕ) → length fs ≤ i
 unfolding values_of
 last_at fs i s h = rw (drop_of_length-le fs h)
 
-pub too_many : (v : CommandName) {fs : List Form} {s a : List ℕ} {at i from : ℕ} → Reading fs s a at i → length fs ≤ i → from ≤ length s
-    → (from ≡ length s → ⊥) → drop from s ≡ after_blanks (drop at s) → Err TooManyWords ≡ read_from v (values_of fs s)
+pub too_many : (v : CommandName) {fs : List Form} {s a : List ℕ} {at i from : ℕ} → Reading fs s a at i → length fs ≤ i → from < length s
+    → drop from s ≡ after_blanks (drop at s) → Err TooManyWords ≡ read_from v (values_of fs s)
 unfolding before
-too_many v {fs} {s} {a} {at} {i} {from} p h le some u =
-    let n : length (drop from s) ≡ 0 → ⊥ = λ z. some (omega (arith, length-drop from s)) in
+too_many v {fs} {s} {a} {at} {i} {from} p h le u =
+    let n : length (drop from s) ≡ 0 → ⊥ = λ z. omega (arith, length-drop from s) in
     rw (p.so_far, last_at fs i (drop at s) h, ← u, ne_eqb _ _ n)
 
 -- what follows the first i is 0, as where nothing follows
@@ -134,6 +134,8 @@ all_read v {fs} {s} {a} {at} {i} {from} p h e u =
     rw (p.so_far, last_at fs i (drop at s) h, eq-eqb _ _ (empty s at from e u), append-nil (take i a))
     (rw (same_places i a p.unset) refl)
 
+pub ruleset readings = (reading_none, too_few, too_many, all_read)
+
 -- a line's first word
 pub no_word : (s : List ℕ) {from : ℕ} → from ≡ length s → drop from s ≡ after_blanks s → Ok None ≡ read_words (after_blanks s)
 unfolding read_words
@@ -141,7 +143,8 @@ no_word s {from} e u = rw (eq-eqb _ _ (empty s 0 from e u))
 
 pub first_there : (s : List ℕ) {from to : ℕ} {x : Result Command Reason} → from ≤ length s → (from ≡ length s → ⊥)
     → drop from s ≡ after_blanks s → WordEnds s from to
-    → x ≡ read_command (first_word (take (to - from) (drop from s))) (take (length s - to) (drop to s)) → asked x ≡ read_words (after_blanks s)
+    → x ≡ read_command (first_word (take (to - from) (drop from s))) (take (length s - to) (drop to s))
+    → asked x ≡ read_words (after_blanks s)
 unfolding read_words
 first_there s {from} {to} le some u w e =
     let n : length (drop from s) ≡ 0 → ⊥ = λ z. some (omega (arith, length-drop from s)) in

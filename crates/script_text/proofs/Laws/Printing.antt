@@ -113,6 +113,8 @@ pub digits_wrote : (b k n : ℕ) {l m out : List ℕ} {at r : ℕ}
     → l ≡ digits b k n → Wrote (length l) m at out r l → Wrote k m at out r (digits b k n)
 digits_wrote b k n e w = wrote_within w (omega (arith, ap length e, length_digits b k n)) e
 
+pub ruleset one_after_another = (wrote_then, digits_wrote)
+
 pub take_short : (n : ℕ) (l : List ℕ) → length (take n l) ≤ n
 take_short zero l = omega arith
 take_short (suc n) [] = omega arith

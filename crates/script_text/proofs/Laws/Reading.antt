@@ -18,7 +18,7 @@ digit_read c b (Some d) h s = grind (arith, nat_tests)
 
 -- a digit more leaves what is too large too large
 too_large_stays : (b d v : ℕ) → 0 < b → value_or_too_large (v * b + d) ≡ add_digit b d (value_or_too_large v)
-unfolding value_or_too_large add_digit
+unfolding value_or_too_large
 too_large_stays b d v h =
     elim (dec_lt v (2 ^ 64)) [
       | yes p ↦ simp (lt-ltb _ _ p)
@@ -32,7 +32,6 @@ too_large_stays b d v h =
 read_step : (b d v : ℕ) (all : Bool) → 0 < b
     → cond (all && ltb d b) (value_or_too_large (v * b + d)) (Err NoNumber)
     ≡ cond (leb b d) (Err NoNumber) (add_digit b d (cond all (value_or_too_large v) (Err NoNumber)))
-unfolding add_digit
 read_step b d v true h =
     elim (dec_lt d b) [
       | yes p ↦ simp (lt-ltb _ _ p, lt-leb _ _ p) (too_large_stays b d v h)
@@ -53,3 +52,5 @@ pub read_more : {n : Read} (b : ℕ) (s : List ℕ) (k : ℕ) → 0 < b → n �
     → add_character b (get_or s k 0) n ≡ numeral_of_first b s (k + 1)
 unfolding add_character numeral_of_first all_digits value_of_first
 read_more b s k h e = rw (e, add-one) (sym (read_step b _ _ (all_digits b s k) h))
+
+pub ruleset readings = (read_none, read_more)

@@ -61,14 +61,16 @@ unfolding after_word
 after_word_at [] = refl
 after_word_at (c ∷ l) = from_place (is_blank c) _ c l (after_word_at l)
 
-module _ (s : List ℕ) (from : ℕ) {n : ℕ} {r : Option ℕ} (h : from ≤ length s) (e : n ≡ unwrap_or r (length (take (length s - from) (drop from s)))) where
+module _ (s : List ℕ) (from : ℕ) {n : ℕ} {r : Option ℕ} (h : from ≤ length s)
+    (e : n ≡ unwrap_or r (length (take (length s - from) (drop from s)))) where
   place_from : (p : ℕ → Bool) → r ≡ position p (drop from s) → n ≡ position_or_len p (drop from s)
   place_from p k = e ∙ rw (rest from s) (place_or_end p (drop from s) k)
 
   inside_from : (p : ℕ → Bool) → r ≡ position p (drop from s) → from + n ≤ length s
   inside_from p k = omega (arith, place_from p k, place_within p (drop from s), length-drop from s)
 
-  pub word_starts : r ≡ position (λ c. not (is_blank c)) (drop from s) → (from + n ≤ length s) × (drop (from + n) s ≡ after_blanks (drop from s))
+  pub word_starts : r ≡ position (λ c. not (is_blank c)) (drop from s)
+      → (from + n ≤ length s) × (drop (from + n) s ≡ after_blanks (drop from s))
   word_starts k = (
     inside_from _ k,
     sym (drop-drop n from s) ∙ ap (λ (i : ℕ). drop i (drop from s)) (place_from _ k) ∙ after_blanks_at (drop from s),
@@ -108,14 +110,16 @@ pub text_before_return : (l : List ℕ) → take (position_or_len is_comment l) 
 unfolding text_of
 text_before_return [] = alone
 text_before_return (c ∷ l) =
-    rw (ends_inside c (length (l ++ line_end)) (omega (arith, length-append l line_end))) (before_place (is_comment c) _ c l (text_before_return l))
+    rw (ends_inside c (length (l ++ line_end)) (omega (arith, length-append l line_end)))
+    (before_place (is_comment c) _ c l (text_before_return l))
 
 pub text_to_end : (l : List ℕ) → ((t : List ℕ) → l ≡ t ++ line_end → ⊥) → take (position_or_len is_comment l) l ≡ text_of l
 unfolding text_of
 text_to_end [] n = refl
 text_to_end (c ∷ []) n = rw (ends_last c (λ e. n [] (rw e))) (before_place (is_comment c) 0 c [] refl)
 text_to_end (c ∷ d ∷ l) n =
-    rw (ends_inside c (length (d ∷ l)) (omega arith)) (before_place (is_comment c) _ c (d ∷ l) (text_to_end (d ∷ l) (λ t e. n (c ∷ t) (rw e))))
+    rw (ends_inside c (length (d ∷ l)) (omega arith))
+    (before_place (is_comment c) _ c (d ∷ l) (text_to_end (d ∷ l) (λ t e. n (c ∷ t) (rw e))))
 
 -- t is what is left of the line without that
 pub text_ends : (line t : Bor (List ℕ)) (r : Option (Bor (List ℕ))) {n : ℕ}

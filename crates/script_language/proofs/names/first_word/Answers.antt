@@ -1,19 +1,19 @@
 -- The table of the code is the definition's.
-use Rattle.std.proofs.Common.{rules, ◌∙◌, sym, refl, ap, Bor, List, map, Option, ◌≡◌, arith}
+use Rattle.std.proofs.Common.{rules, refl, Bor, ◌≡◌}
 use borrow.Author.Tests.{tests}
 use Rattle.std.specs.List.{find}
 use Rattle.std.specs.Option.{option_map}
 use Rattle.std.proofs.lemmas.Iterator.{YieldsList-from_slice}
 use Rattle.std.proofs.lemmas.Iterator.Search.{find_from_yields_List}
-use Rattle.script_language.specs.declared.names.CommandName.{CommandName}
-use Rattle.script_language.specs.Names.{first_word, command_numbers, access_and_level, forms_of, operation_numbers}
+use Rattle.script_language.specs.Names.{command_numbers, access_and_level, forms_of, operation_numbers}
 use Rattle.script_language.proofs.Laws.Names.{Row, IsTable, is_word, no_row, row_names, row_forms, row_few}
 use Rattle.script_language.proofs.names.first_word.Goals.{After-find}
 use Rattle.script_language.proofs.names.first_word.Goals as goal
 
 looked : (c : After-find) → option_map (λ (x : Bor Row). x.now) c.find.result ≡ find (is_word c.args.w.now) c.iter.result.rest.now
 looked c =
-    find_from_yields_List (is_word c.args.w.now) _ _ c.find.result c.find.ensures.ran (YieldsList-from_slice c.iter.result.rest.now refl) (λ x b q k. search (rules, tests))
+    find_from_yields_List (is_word c.args.w.now) _ _ c.find.result c.find.ensures.ran
+    (YieldsList-from_slice c.iter.result.rest.now refl) (λ x b q k. search (rules, tests))
 
 table : (c : After-find) → IsTable c.iter.result.rest.now
 unfolding forms_of command_numbers access_and_level operation_numbers

@@ -1,19 +1,14 @@
 -- The digits from i on are there, and those before it are what is left of n.
 use Rattle.std.proofs.Common.{arith}
-use lib.ListN.{length-replicate, length-set}
-use Rattle.script_text.proofs.Laws.Printing.{spell_none, spell_more, spell_all}
+use lib.ListN.{length-set}
+use Rattle.script_text.proofs.Laws.Printing.{spell_more, spell_all}
 use Rattle.script_text.proofs.digits.last_digits.Goals as goal
-
-pub loop-i-init : goal.loop-i-init
-loop-i-init g c = record {
-  whole = length-replicate g.row.N 0;
-  spelled = spell_none _ c.args.base c.args.n (length-replicate g.row.N 0);
-}
 
 pub loop-i-preserved : goal.loop-i-preserved
 loop-i-preserved g c = record {
   whole = simp length-set c.loop-i.invariant.whole;
-  spelled = rw c.digit_character.ensures (spell_more _ _ _ _ c.loop-i-test.true (omega (arith, c.loop-i.invariant.whole)) c.loop-i.invariant.spelled);
+  spelled = rw c.digit_character.ensures (
+      spell_more _ _ _ _ c.loop-i-test.true (omega (arith, c.loop-i.invariant.whole)) c.loop-i.invariant.spelled);
 }
 
 pub returns : goal.returns

@@ -9,4 +9,5 @@ use Rattle.script_text.proofs.words.word_end.Goals as goal
 pub returns : goal.returns
 returns c = word_ends c.args.s.now c.args.from c.requires c.unwrap_or.ensures (
     position_from_yields_List is_blank _ _ c.position.result c.position.ensures.ran
-    (YieldsList-from_slice (drop c.args.from c.args.s.now) (c.iter.ensures.rest ∙ rest c.args.from c.args.s.now)) (λ x b q k. search (rules, tests)))
+    (YieldsList-from_slice (drop c.args.from c.args.s.now) (c.iter.ensures.rest ∙ rest c.args.from c.args.s.now))
+    (λ x b q k. search (rules, tests)))
