@@ -10,7 +10,7 @@ pub count-places-requires-clause-f_bound : goal.count-places-requires-clause-f_b
 count-places-requires-clause-f_bound c = unmap_low c.requires.sound c.requires.slotted
 
 pub overflow_sub-places : goal.overflow_sub-places
-overflow_sub-places c = (unmap_count c.requires.sound c.requires.slotted c.count-places.result c.count-places.ensures).0
+overflow_sub-places c = omega (arith, (unmap_count c.requires.sound c.requires.slotted c.count-places.result c.count-places.ensures).0)
 
 pub set_count-requires-clause-f_bound : goal.set_count-requires-clause-f_bound
 set_count-requires-clause-f_bound c = unmap_low c.requires.sound c.requires.slotted
