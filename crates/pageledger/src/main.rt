@@ -1,7 +1,9 @@
 // Runs a script: standard input to standard output.
 #![tactic(auto)]
 
-ghost use Rattle.std.specs.Prelude.{◌≡◌, [], ◌∷◌, ◌++◌, take};
+ghost use Rattle.std.specs.Prelude.{◌≡◌, ℕ, List, [], ◌∷◌, ◌++◌, take};
+ghost use Rattle.script_language.specs.Commands.{read_line};
+ghost use Rattle.script.specs.LineAnswered.{LineEffect};
 ghost use Rattle.pageledger.specs.Progress.{ProgressSound};
 
 mod buffer;
@@ -53,7 +55,10 @@ impl Progress {
         ledger: &mut [u32; LEDGER_WORDS],
     )
         requires { ProgressSound self.old ram.old ledger.old }
-        ensures { ProgressSound self.new ram.new ledger.new }
+        ensures sound { ProgressSound self.new ram.new ledger.new }
+        ensures begun { self.new.line ≡ [] }
+        ensures answered { (text : List ℕ) × LineEffect (read_line self.old.line) self.old.machine ram.old ledger.old
+            ram.new ledger.new self.new.machine text }
     {
         let m = self.machine;
         let line = self.line.bytes();
