@@ -63,8 +63,8 @@ impl Tables {
         };
         let mut level: u64 = 0;
         let mut table = self.root;
-        // Stays: with a `for` over the levels a walk of both stages takes 1.11 times as long as plain C, past the bar of
-        // docs/BENCHMARK.md, and with this loop 0.98.
+        // Stays: with a `for` over the levels a walk of both stages took 1.11 times as long as plain C, past the bar of docs/BENCHMARK.md,
+        // where with this loop it took 0.98.
         'levels: loop {
             let a = walk_level::slot(level, ipa, table);
             match visit(ram, self.base, asked, level, a) {
