@@ -19,6 +19,9 @@ pub(crate) struct NextTable {
     pub fetched: u64,
 }
 
+// What a level of stage 1 came to: the next table, or the answer.
+type LevelOutcome = ControlFlow<Answer, NextTable>;
+
 // What both stages are asked for a virtual address.
 #[derive(Clone, Copy)]
 pub(crate) struct Sought {
@@ -30,13 +33,7 @@ pub(crate) struct Sought {
 
 impl Sought {
     // The descriptor of a level, which was reached at the physical address `a`; `before` descriptors were fetched on the way here.
-    fn from_descriptor(
-        self,
-        ram: &[u8],
-        level: u64,
-        a: u64,
-        before: u64,
-    ) -> ControlFlow<Answer, NextTable>
+    fn from_descriptor(self, ram: &[u8], level: u64, a: u64, before: u64) -> LevelOutcome
         requires { (level ≤ last_level) × (a < address_end) × (before + 1 ≤ most_before_last) }
         ensures { LevelComesTo ram.now self.stage_2.base self.stage_2.root (access_number self.access) (el_number self.el) self.va level
             (before + 1) (answered before (from_descriptor_1 ram.now self.stage_2.base self.stage_2.root (access_number self.access)
@@ -73,7 +70,7 @@ impl Sought {
     }
 
     // One level of stage 1: its descriptor goes through stage 2 as a read.
-    fn one_level(self, ram: &[u8], level: u64, at: NextTable) -> ControlFlow<Answer, NextTable>
+    fn one_level(self, ram: &[u8], level: u64, at: NextTable) -> LevelOutcome
         requires { (level ≤ last_level) × (at.table < address_end) × (at.fetched + most_by_level ≤ most_before_last) }
         ensures { LevelComesTo ram.now self.stage_2.base self.stage_2.root (access_number self.access) (el_number self.el) self.va level
             (at.fetched + most_by_level) (answered at.fetched (from_table_1 ram.now self.stage_2.base self.stage_2.root

@@ -37,6 +37,8 @@ pub(crate) struct Failed {
     pub fetched: u64,
 }
 
+pub(crate) type Ended = Result<Reached, Failed>;
+
 // Stage 2's tables, in RAM that begins at `base`.
 #[derive(Clone, Copy)]
 pub(crate) struct Tables {
@@ -47,42 +49,30 @@ pub(crate) struct Tables {
 
 impl Tables {
     // `before` descriptors were fetched on the way here.
-    pub(crate) fn walk(
-        self,
-        ram: &[u8],
-        access: Access,
-        ipa: u64,
-        before: u64,
-    ) -> Result<Reached, Failed>
+    pub(crate) fn walk(self, ram: &[u8], access: Access, ipa: u64, before: u64) -> Ended
         requires { before ≤ most_before_last }
         ensures { result ≡ ended before (stage_2 ram.now self.base self.root (access_number access) ipa) }
     {
-        let asked = Asked {
-            wanted: AtStage2 { access },
-            ia: ipa,
-        };
+        let wanted = AtStage2 { access };
+        let asked = Asked { wanted, ia: ipa };
         let mut level: u64 = 0;
         let mut table = self.root;
-        // Stays: with a `for` over the levels a walk of both stages takes 1.11 times as long as plain C, past the bar of
-        // docs/BENCHMARK.md, and with this loop 0.98.
+        // Stays: with a `for` over the levels a walk of both stages took 1.11 times as long as plain C, past the bar of docs/BENCHMARK.md,
+        // where with this loop it took 0.98.
         'levels: loop {
             let a = walk_level::slot(level, ipa, table);
+            let fetched = before + level + 1;
             match visit(ram, self.base, asked, level, a) {
                 Step::Down(next) => {
                     table = next;
                     level += 1;
                 }
-                Step::Output(address) => {
-                    return Ok(Reached {
-                        address,
-                        fetched: before + level + 1,
-                    });
-                }
+                Step::Output(address) => return Ok(Reached { address, fetched }),
                 Step::Fail(kind) => {
                     return Err(Failed {
                         kind,
                         level,
-                        fetched: before + level + 1,
+                        fetched,
                     });
                 }
                 Step::Absent => {
