@@ -1,5 +1,5 @@
 // Document 03: set-up and the nine operations. Each promises what the monitor's function of that name promises, of the answer's number.
-// Stays: numbers in and out, as include/pageledger.h has them: each function here turns a refusal into its number.
+// Stays: numbers and slices, as include/pageledger.h has them, and a function of its own for each: a refusal is turned into its number.
 ghost use Rattle.std.specs.Prelude.{◌≡◌};
 ghost use Rattle.std.proofs.Math.Option.{none, some};
 ghost use Rattle.model.specs.Machine.{Map, Unmap};

@@ -1,6 +1,7 @@
 // The cells of the ledger's rows, for this crate and ledger_free: the only functions that know where a cell lies.
 // A clause reads a constant of the code where the code has one of the name: so the definitions' have another here.
-// Stays: a column is a number and no enum of columns, since a guest's cell is in column CELLS + g.
+// Stays: a column is a number and no enum of columns, since a guest's cell is in column CELLS + g; and what is asked of it and of the row
+// stands in the four contracts, since slices are parameters (docs/DECISIONS.md, 60).
 ghost use Rattle.std.specs.Prelude.{◌≡◌, ◌+◌, ◌*◌, ◌<◌, ◌≤◌, length};
 ghost use Rattle.ledger.specs.Cells.{store};
 ghost use Rattle.ledger.specs.Columns.{ROW_WORDS as row_words, HEADER_WORDS as header_words, GUEST_ROWS, WORD_LIMIT, room_for_frames};
@@ -35,6 +36,7 @@ pub fn store_of_frame(ledger: &mut [u32], column: u64, f: u64, v: u64)
     ledger[place(HEADER_WORDS, column, f)] = v as u32;
 }
 
+// Stays: beside of_frame, and store_of_guest beside store_of_frame, over one `place`: which rows there are is asked otherwise of each.
 #[tactic(auto, using(crate::proofs::Laws::Cells::cell_at))]
 pub fn of_guest(ledger: &[u32], column: u64, g: u64) -> u64
     requires { (column < row_words) × (g < GUEST_ROWS) × (header_words ≤ length ledger.now) }

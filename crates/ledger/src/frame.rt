@@ -16,7 +16,7 @@ use super::{GUESTS, cells, columns};
 const NOBODY: u64 = 0;
 
 // What of a page is shared with a guest: nothing, reading, or writing too.
-#[derive(Clone, Copy, PartialEq, Eq, PartialOrd, Ord)]
+#[derive(Clone, Copy, PartialEq, Eq)]
 pub enum Shared {
     Nothing,
     Reading,

@@ -52,6 +52,8 @@ pub fn root(ledger: &[u32], g: u64) -> u64
     cells::of_guest(ledger, columns::ROOT, g)
 }
 
+// Stays: a function for each field, of one line over the cell (is_free and is_page, share and count, size and free as well): who calls
+// says which field by its name, and the clauses are of different definitions.
 #[tactic(auto, using(crate::proofs::Laws::Stores::existence_changed))]
 pub fn set_existence(ledger: &mut [u32], g: u64, exists: bool)
     requires ledger_sound { LedgerSound ledger.old }

@@ -12,7 +12,7 @@ pub enum Kind {
     DrainingPage,
 }
 
-// The numbers, as the variants are numbered from 0 on; MONITOR's is 0, and every other number reads as it does.
+// The numbers, as the variants are numbered from 0 on; Monitor's is 0, and every other number reads as Monitor does.
 const FREE: u64 = 1;
 
 const TABLE: u64 = 2;

@@ -6,7 +6,7 @@ ghost use Rattle.model.specs.Changes.{zeros};
 ghost use Rattle.ledger.specs.Layout.{word_of};
 ghost use Rattle.ledger.specs.Words.{Within};
 
-pub const FRAME_BYTES: u64 = 4096;
+use memory::FRAME_BYTES;
 
 const WORD_BYTES: u64 = 8;
 
@@ -19,6 +19,7 @@ fn place(f: u64, i: u64) -> usize
 }
 
 // Entry i of the table in frame f.
+// Stays: what is asked of f and i stands in each contract: RAM is a slice, and slices are parameters (docs/DECISIONS.md, 60).
 #[tactic(auto, using(crate::proofs::Laws::Words::word_is))]
 pub fn entry(ram: &[u8], f: u64, i: u64) -> u64
     requires { (i < 512) × (f < page_count) × Within ram.now f }

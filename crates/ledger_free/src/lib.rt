@@ -1,6 +1,7 @@
 // The free frames, a sparse set: taking any, taking a named one and putting one back each exchange two places.
 // Stays: a permutation of frames in cells of the ledger, and no collection of the library: the ledger is a lent slice, with no heap.
-// Stays: what the contracts ask of a ledger and a frame stands in each of them, as in crate ledger.
+// Stays: what the contracts ask of a ledger and a frame stands in each of them, as in crate ledger (docs/DECISIONS.md, 60).
+// Stays: drain beside release, and become_page beside become_table: other kinds, and as many cells as the kind has, over one store_kind.
 #![tactic(auto)]
 
 ghost use Rattle.std.specs.Prelude.{◌≡◌, false, ◌<◌, ◌^◌};

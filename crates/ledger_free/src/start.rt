@@ -7,8 +7,8 @@ ghost use Rattle.ledger_free.specs.Start.{kind_first, Filled, ram_stored, LaidOu
 
 use super::{place, store_kind};
 use ledger::kinds::Kind;
-use ledger::words::FRAME_BYTES;
 use ledger::{cells, columns};
+use memory::FRAME_BYTES;
 
 fn first_kind(f: u64, k: u64) -> Kind
     ensures { kind_code result ≡ kind_first f k }

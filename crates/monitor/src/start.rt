@@ -6,7 +6,7 @@ ghost use Rattle.monitor_contract.specs.Refusals.{answer_number};
 ghost use Rattle.monitor.specs.SetUp.{slices_fit, setting_up, SetUp};
 
 use ledger_free::start;
-use monitor_contract::refusals::Refusal;
+use monitor_contract::refusals::{Refusal, demand};
 
 // The slices have the lengths that n asks for.
 #[tactic(auto, unfolding(crate::specs::SetUp::slices_fit))]
@@ -21,11 +21,10 @@ fn slices_fit(ram: &[u8], ledger: &[u32], n: u64) -> bool
 fn check_set_up(ram: &[u8], ledger: &[u32], b: u64, n: u64, k: u64) -> Result<(), Refusal>
     ensures { answer_number result ≡ refusal (setting_up b n k ram.now ledger.now) }
 {
-    if memory::ram_fits(b, n) && k < n && slices_fit(ram, ledger, n) {
-        Ok(())
-    } else {
-        Err(Refusal::NoFrame)
-    }
+    demand(
+        memory::ram_fits(b, n) && k < n && slices_fit(ram, ledger, n),
+        Refusal::NoFrame,
+    )
 }
 
 // n frames from physical address b on, of which the first k are the monitor's.

@@ -6,29 +6,21 @@ ghost use Rattle.ledger.specs.Layout.{size_of, exists_of, kind_of};
 ghost use Rattle.ledger.specs.LedgerSound.{LedgerSound};
 ghost use Rattle.monitor_contract.specs.Refusals.{Tested};
 
-use super::refusals::Refusal;
+use super::refusals::{Refusal, demand};
 use ledger::{frame, guest, header};
 
 pub fn guest_exists(ledger: &[u32], g: u64) -> Result<(), Refusal>
     requires { LedgerSound ledger.now }
     ensures { Tested (exists_of ledger.now g) Refusal.NoGuest result }
 {
-    if guest::exists(ledger, g) {
-        Ok(())
-    } else {
-        Err(Refusal::NoGuest)
-    }
+    demand(guest::exists(ledger, g), Refusal::NoGuest)
 }
 
 pub fn frame_exists(ledger: &[u32], f: u64) -> Result<(), Refusal>
     requires { LedgerSound ledger.now }
     ensures { Tested (ltb f (size_of ledger.now)) Refusal.NoFrame result }
 {
-    if f < header::size(ledger) {
-        Ok(())
-    } else {
-        Err(Refusal::NoFrame)
-    }
+    demand(f < header::size(ledger), Refusal::NoFrame)
 }
 
 pub fn is_its_page(ledger: &[u32], f: u64, g: u64) -> Result<(), Refusal>
@@ -36,9 +28,5 @@ pub fn is_its_page(ledger: &[u32], f: u64, g: u64) -> Result<(), Refusal>
     requires f_bound { f < size_of ledger.now }
     ensures { Tested (is_page_of (kind_of ledger.now f) g) Refusal.NotItsPage result }
 {
-    if frame::is_page_of(ledger, f, g) {
-        Ok(())
-    } else {
-        Err(Refusal::NotItsPage)
-    }
+    demand(frame::is_page_of(ledger, f, g), Refusal::NotItsPage)
 }

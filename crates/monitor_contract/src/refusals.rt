@@ -1,6 +1,6 @@
 // Document 03, section 2: the refusals, by the names of include/pageledger.h, and their numbers.
 ghost use Rattle.std.specs.Prelude.{◌≡◌};
-ghost use Rattle.monitor_contract.specs.Refusals.{refusal_number, answer_number};
+ghost use Rattle.monitor_contract.specs.Refusals.{Tested, refusal_number, answer_number};
 
 // What is answered where nothing is refused.
 pub const DONE: u64 = 0;
@@ -40,4 +40,11 @@ pub fn number(answer: Result<(), Refusal>) -> u64
         Ok(()) => DONE,
         Err(refusal) => u64::from(refusal),
     }
+}
+
+// Goes on where a test holds, and refuses where it fails.
+pub fn demand(holds: bool, refusal: Refusal) -> Result<(), Refusal>
+    ensures { Tested holds refusal result }
+{
+    if holds { Ok(()) } else { Err(refusal) }
 }

@@ -1,4 +1,5 @@
 // Document 03, section 3: destroy.
+// Stays: RAM and the ledger, and Sound of both, in each contract: C lends two slices to pageledger_destroy (docs/DECISIONS.md, 60).
 #![tactic(auto)]
 
 ghost use Rattle.std.specs.Prelude.{◌≡◌, true, ◌<◌};

@@ -1,4 +1,5 @@
 // Document 03, section 3: invalidated.
+// Stays: RAM and the ledger, and Sound of both, in each contract: C lends two slices to pageledger_invalidated (docs/DECISIONS.md, 60).
 #![tactic(auto)]
 
 ghost use Rattle.std.specs.Prelude.{◌≡◌};
@@ -13,18 +14,14 @@ ghost use Rattle.monitor_contract.specs.EachFrame.{EachTurned, same};
 ghost use Rattle.monitor_invalidated.specs.Invalidated.{invalidating};
 
 use ledger::{guest, header};
-use monitor_contract::refusals::Refusal;
+use monitor_contract::refusals::{Refusal, demand};
 
 #[tactic(auto, unfolding(model::specs::Operations::invalidated, model::specs::Operations::check))]
 fn check_invalidated(ram: &[u8], ledger: &[u32], g: u64) -> Result<(), Refusal>
     requires { Sound ram.now ledger.now }
     ensures { answer_number result ≡ refusal (invalidated_of (state_of ram.now ledger.now) g) }
 {
-    if guest::is_guest(g) {
-        Ok(())
-    } else {
-        Err(Refusal::NoGuestNumber)
-    }
+    demand(guest::is_guest(g), Refusal::NoGuestNumber)
 }
 
 // Stays: drain_all of monitor_destroy is this loop over another turn; one loop for both takes the turn as a closure, and then a clause on

@@ -1,4 +1,5 @@
 // What a host may ask, and nothing is changed: what a frame is, what a guest is, what an address of a guest translates to.
+// Stays: RAM and the ledger, and Sound of both, in each contract: C lends two slices to each question (docs/DECISIONS.md, 60).
 #![tactic(auto)]
 
 ghost use Rattle.std.specs.Prelude.{◌≡◌, true, ◌+◌, ◌*◌};

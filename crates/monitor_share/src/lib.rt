@@ -1,4 +1,5 @@
 // Document 03, section 3: share and unshare. The doing of both is one store.
+// Stays: RAM and the ledger, and Sound of both, in each contract: C lends two slices to pageledger_share (docs/DECISIONS.md, 60).
 #![tactic(auto)]
 
 ghost use Rattle.std.specs.Prelude.{◌≡◌, true, ◌<◌};

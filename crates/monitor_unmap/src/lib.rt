@@ -1,4 +1,5 @@
 // Document 03, section 3: unmap. The check goes down the tables once, and what it finds is a plan that the doing starts from.
+// Stays: RAM and the ledger, and Sound of both, in each contract: C lends two slices to pageledger_unmap (docs/DECISIONS.md, 60).
 #![tactic(auto)]
 
 ghost use Rattle.std.specs.Prelude.{OnOk};

@@ -84,7 +84,7 @@ impl Progress {
         requires { ProgressSound self.old ram.old ledger.old }
         ensures sound { ProgressSound self.new ram.new ledger.new }
         ensures gathered { ¬ (b ≡ LINE_END) → (self.new.machine ≡ self.old.machine)
-            × (self.new.line ≡ take LINE_BYTES (self.old.line ++ b ∷ [])) }
+            × (self.new.line ≡ take LINE_BYTES (self.old.line ++ b ∷ [])) × (self.new.output ≡ self.old.output) }
     {
         if b == LINE_END {
             self.end_line(stdout, ram, ledger);

@@ -17,7 +17,7 @@ mod words;
 // The machine that `setup` made: RAM is the first `frames` frames of the lent slice, from physical address `base`. No frames: none yet.
 // Ready: the ledger is what `setup` and the operations have made, and no `word` has hit a table since.
 // Stays: `frames: 0` and no Option<Machine>. RAM with no frames has no word and no walk, so each command answers it by its own rule.
-// Stays: MachineSound in clauses, and RAM and ledger as parameters. A type with them as fields would hold borrowed slices.
+// Stays: MachineSound in clauses, and RAM and ledger as parameters: slices are parameters (docs/DECISIONS.md, 60).
 #[derive(Clone, Copy, Default)]
 pub struct Machine {
     pub base: u64,

@@ -1,6 +1,6 @@
 // Texts and numbers, put one after the other into a slice that the caller lends.
-// Stays: `out` and the place `at` go from call to call, and each answers the place after what it put. A struct of both would hold
-// a borrowed slice, and slices are parameters here.
+// Stays: `out` and the place `at` go from call to call, and each answers the place after what it put: slices are parameters
+// (docs/DECISIONS.md, 60). And no Display: these can't fail, and Wrote says how many bytes of the slice are touched.
 ghost use Rattle.std.specs.Prelude.{◌≡◌, ◌+◌, ◌≤◌, ◌<◌, ◌++◌, length};
 ghost use Rattle.script_text.specs.Digits.{digit_character, digits as digits_of, without_zeros, most_digits, word_digits, numeral_of, decimal_of, hex_of, sixteen_digits_of};
 ghost use Rattle.script_text.specs.Wrote.{Wrote};
