@@ -4,14 +4,18 @@
 ghost use Rattle.std.specs.Prelude.{◌≡◌, ◌+◌, ◌≤◌, ◌<◌, ◌++◌, length};
 ghost use Rattle.script_text.specs.Digits.{digit_character, digits as digits_of, without_zeros, most_digits, word_digits, numeral_of, decimal_of, hex_of, sixteen_digits_of};
 ghost use Rattle.script_text.specs.Wrote.{Wrote};
+ghost use Rattle.script_text.specs.Bases.{base_number};
 
-use crate::{DECIMAL, HEXADECIMAL};
+use crate::Base;
 
 // The digits of 2^64 - 1 in base 10.
 const MOST_DIGITS: usize = 20;
 
 // The digits of a 64-bit word in base 16.
 const WORD_DIGITS: usize = 16;
+
+// The digits from here on are letters.
+const LETTERS_FROM: u64 = 10;
 
 // Puts text at `at`, and answers the place after it.
 pub fn put(out: &mut [u8], at: usize, text: &[u8]) -> usize
@@ -29,18 +33,18 @@ fn digit_character(d: u64) -> u8
     requires { d < 16 }
     ensures { result ≡ digit_character d }
 {
-    if d < DECIMAL {
+    if d < LETTERS_FROM {
         b'0' + d as u8
     } else {
-        b'a' + (d - DECIMAL) as u8
+        b'a' + (d - LETTERS_FROM) as u8
     }
 }
 
-// The last N digits of n.
-fn last_digits<const N: usize>(n: u64, base: u64) -> [u8; N]
-    requires { (0 < base) × (base ≤ 16) }
-    ensures { result ≡ digits_of base N n }
+// The last N digits of n in a base.
+fn last_digits<const N: usize>(n: u64, base: Base) -> [u8; N]
+    ensures { result ≡ digits_of (base_number base) N n }
 {
+    let base = u64::from(base);
     let mut digits = [0; N];
     let mut left = n;
     for i in (0..N).rev() {
@@ -50,10 +54,10 @@ fn last_digits<const N: usize>(n: u64, base: u64) -> [u8; N]
     digits
 }
 
-// n in a base of 10 or more, with no zeros in front.
-fn put_number(out: &mut [u8], at: usize, n: u64, base: u64) -> usize
-    requires { (at + most_digits ≤ length out.old) × (10 ≤ base) × (base ≤ 16) }
-    ensures { Wrote most_digits out.old at out.new result (numeral_of base n) }
+// n in a base, with no zeros in front.
+fn put_number(out: &mut [u8], at: usize, n: u64, base: Base) -> usize
+    requires { at + most_digits ≤ length out.old }
+    ensures { Wrote most_digits out.old at out.new result (numeral_of (base_number base) n) }
 {
     let digits: [u8; MOST_DIGITS] = last_digits(n, base);
     let zeros = digits
@@ -68,7 +72,7 @@ pub fn put_decimal(out: &mut [u8], at: usize, n: u64) -> usize
     requires { at + most_digits ≤ length out.old }
     ensures { Wrote most_digits out.old at out.new result (decimal_of n) }
 {
-    put_number(out, at, n, DECIMAL)
+    put_number(out, at, n, Base::Decimal)
 }
 
 #[tactic(auto, using(crate::proofs::Laws::Printing::wrote_then), unfolding(crate::specs::Digits::hex_of))]
@@ -77,7 +81,7 @@ pub fn put_hex(out: &mut [u8], at: usize, n: u64) -> usize
     ensures { Wrote (2 + most_digits) out.old at out.new result (hex_of n) }
 {
     let next = put(out, at, b"0x");
-    put_number(out, next, n, HEXADECIMAL)
+    put_number(out, next, n, Base::Hexadecimal)
 }
 
 // Sixteen digits.
@@ -86,7 +90,7 @@ pub fn put_word(out: &mut [u8], at: usize, n: u64) -> usize
     requires { at + (2 + word_digits) ≤ length out.old }
     ensures { Wrote (2 + word_digits) out.old at out.new result (sixteen_digits_of n) }
 {
-    let digits: [u8; WORD_DIGITS] = last_digits(n, HEXADECIMAL);
+    let digits: [u8; WORD_DIGITS] = last_digits(n, Base::Hexadecimal);
     let next = put(out, at, b"0x");
     put(out, next, &digits)
 }

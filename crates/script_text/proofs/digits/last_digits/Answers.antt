@@ -12,4 +12,4 @@ loop-i-preserved g c = record {
 }
 
 pub returns : goal.returns
-returns g c = spell_all _ _ _ _ c.loop-i-test.false c.loop-i.invariant.spelled
+returns g c = rw (← c.from-base.ensures.0) (spell_all _ _ _ _ c.loop-i-test.false c.loop-i.invariant.spelled)

@@ -12,8 +12,8 @@ use Rattle.script_text.proofs.digits.put_number.Goals as goal
 pub returns : goal.returns
 unfolding numeral_of
 returns c =
-    without_zeros_wrote c.args.base most_digits c.last_digits-digits.result c.args.n c.unwrap_or-zeros.result c.last_digits-digits.ensures
-    (zeros_passed c.last_digits-digits.result _ (ap length c.last_digits-digits.ensures ∙ length_digits c.args.base most_digits c.args.n)
+    without_zeros_wrote _ most_digits c.last_digits-digits.result c.args.n c.unwrap_or-zeros.result c.last_digits-digits.ensures
+    (zeros_passed c.last_digits-digits.result _ (ap length c.last_digits-digits.ensures ∙ length_digits _ most_digits c.args.n)
     (position_from_yields_List is_shown _ _ c.position.result c.position.ensures.ran
     (YieldsList-from_slice c.last_digits-digits.result c.iter.ensures.rest) (λ x b q k. search (rules, tests)))
     c.unwrap_or-zeros.ensures)
