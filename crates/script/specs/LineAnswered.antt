@@ -26,7 +26,8 @@ LineEffect (Ok (Some c)) m ram l ram' l' m' text =
 LineEffect (Err why) m ram l ram' l' m' text = (m' ≡ m) × (ram' ≡ ram) × (l' ≡ l) × (text ≡ mistake_text why)
 
 -- the line x was answered: `out` begins with what it prints
-pub record LineAnswered (x : Result (Option Command) Reason) (m : Machine) (ram ledger ram' ledger' out : List ℕ) (r : Answered) : Type 0 where
+pub record LineAnswered (x : Result (Option Command) Reason) (m : Machine)
+    (ram ledger ram' ledger' out : List ℕ) (r : Answered) : Type 0 where
   pub effect : LineEffect x m ram ledger ram' ledger' r.machine (take r.printed out)
   pub machine_sound : MachineSound r.machine ram' ledger'
   pub short : r.printed ≤ printed_bytes r.machine

@@ -9,7 +9,8 @@ use script_text::numbers::number;
 use script_text::words::{word_end, word_start};
 
 // A name's number is its place.
-// Stays: a question holds the kind of access and the level as numbers, since `walk::stage2` and `walk::both_stages` take them so, and any number.
+// Stays: a question holds the kind of access and the level as numbers, since `walk::stage2` and `walk::both_stages` take them so,
+// and any number.
 const ACCESS_NAMES: [&[u8]; 3] = [b"r", b"w", b"x"];
 
 const LEVEL_NAMES: [&[u8]; 2] = [b"el0", b"el1"];

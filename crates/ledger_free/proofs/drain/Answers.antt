@@ -7,5 +7,6 @@ returns-in-Table c = drain_one _ c.requires.ledger_sound _ c.requires.f_bound _ 
     c.draining.ensures c.store_kind.ensures
 
 pub returns-in_default : goal.returns-in_default
-returns-in_default c = drain_none _ c.requires.ledger_sound _ c.requires.f_bound _ _ _ c.kind_for.ensures c.from-kind.ensures c.in_default.not-Table
+returns-in_default c =
+    drain_none _ c.requires.ledger_sound _ c.requires.f_bound _ _ _ c.kind_for.ensures c.from-kind.ensures c.in_default.not-Table
     c.in_default.not-Page

@@ -70,7 +70,8 @@ module _ (m : List ℕ) (b n : ℕ) where
     unfolding answer_2
     unfit_2 e = simp (fits_2, e, and_false)
 
-    pub unread_2 : {r : Result Access NoSuch} {e : NoSuch} → Reads access_number kinds_of_access access r → r ≡ Err e → Refused ≡ answer_2 m b n root ipa access
+    pub unread_2 : {r : Result Access NoSuch} {e : NoSuch} → Reads access_number kinds_of_access access r → r ≡ Err e
+        → Refused ≡ answer_2 m b n root ipa access
     unfolding answer_2
     unread_2 is e = simp (fits_2, not_read access_number kinds_of_access access is e)
 

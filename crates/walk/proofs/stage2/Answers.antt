@@ -5,7 +5,8 @@ use Rattle.walk.proofs.stage2.Goals as goal
 
 pub invariant_of-answer : goal.invariant_of-answer
 invariant_of-answer c = record {
-  root_low = low_2 c.args.ram.now c.args.base c.args.frames c.args.root c.args.ipa c.args.access (sym c.fits_stage2.ensures ∙ c.if-fits_stage2.true);
+  root_low = low_2 c.args.ram.now c.args.base c.args.frames c.args.root c.args.ipa c.args.access
+      (sym c.fits_stage2.ensures ∙ c.if-fits_stage2.true);
 }
 
 pub returns-in-Ok : goal.returns-in-Ok

@@ -19,7 +19,8 @@ loop-g-preserved c =
       | then-from-shared_with w ↦
           let least = rw c.from.ensures at w.if-from-shared_with.true in
           rw (w.out-is, w.next-is)
-          (list_more (share_code c.args.least) shares _ _ one c.loop-g.invariant c.shared_with.ensures least w.put_listed_guest-next.ensures)
+          (list_more (share_code c.args.least) shares _ _ one c.loop-g.invariant c.shared_with.ensures least
+          w.put_listed_guest-next.ensures)
       | else-from-shared_with w ↦
           let less = rw c.from.ensures at w.if-from-shared_with.false in
           rw (w.out-is, w.next-is)

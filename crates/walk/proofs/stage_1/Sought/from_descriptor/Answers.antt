@@ -17,8 +17,14 @@ returns-in-Output c =
 
 pub returns-in-Fail : goal.returns-in-Fail
 returns-in-Fail c =
-    record { so = sym (went_wrong (after_step_1 _ _ c.args.self.stage_2.root _ _ _ _ c.args.before _ c.requires.0 c.visit.ensures) c.in-Fail.is) }
+    record {
+      so = sym (went_wrong (after_step_1 _ _ c.args.self.stage_2.root _ _ _ _ c.args.before
+          _ c.requires.0 c.visit.ensures) c.in-Fail.is);
+    }
 
 pub returns-in-Absent : goal.returns-in-Absent
 returns-in-Absent c =
-    record { so = sym (was_absent (after_step_1 _ _ c.args.self.stage_2.root _ _ _ _ c.args.before _ c.requires.0 c.visit.ensures) c.in-Absent.is) }
+    record {
+      so = sym (was_absent (after_step_1 _ _ c.args.self.stage_2.root _ _ _ _ c.args.before
+          _ c.requires.0 c.visit.ensures) c.in-Absent.is);
+    }

@@ -28,4 +28,5 @@ pub returns-in-Fail : goal.returns-in-Fail
 returns-in-Fail c = sym (went_wrong (turn_2 _ _ _ _ _ _ c.args.before c.levels.invariant c.slot-a.ensures.0 c.visit.ensures) c.in-Fail.is)
 
 pub returns-in-Absent : goal.returns-in-Absent
-returns-in-Absent c = sym (was_absent (turn_2 _ _ _ _ _ _ c.args.before c.levels.invariant c.slot-a.ensures.0 c.visit.ensures) c.in-Absent.is)
+returns-in-Absent c =
+    sym (was_absent (turn_2 _ _ _ _ _ _ c.args.before c.levels.invariant c.slot-a.ensures.0 c.visit.ensures) c.in-Absent.is)
