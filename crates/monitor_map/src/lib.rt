@@ -5,7 +5,7 @@
 ghost use Rattle.std.specs.Prelude.{◌≡◌, true, ◌+◌, ◌<◌, OnOk};
 ghost use Rattle.std.proofs.Math.Option.{some};
 ghost use Rattle.model.specs.State.{is_guest};
-ghost use Rattle.model.specs.Operations.{is_rights, shares as shares_of};
+ghost use Rattle.model.specs.Operations.{shares as shares_of};
 ghost use Rattle.model.specs.Machine.{Map};
 ghost use Rattle.ledger.specs.Layout.{size_of, pick_of, state_of};
 ghost use Rattle.ledger.specs.Kinds.{share_code};
@@ -14,6 +14,7 @@ ghost use Rattle.ledger.specs.Sound.{Sound};
 ghost use Rattle.monitor_contract.specs.Refusals.{answer_number};
 ghost use Rattle.monitor_contract.specs.Answers.{Answers, Done};
 ghost use Rattle.monitor_contract.specs.Found.{Translates, Finds};
+ghost use Rattle.monitor_tables.specs.Rights.{rights_number};
 ghost use Rattle.monitor_map.specs.Map.{mapping as mapping_of, first_refusal, allows, Ready, IsMapPlan};
 
 use ledger::frame::Shared;
@@ -21,47 +22,36 @@ use ledger::{frame, guest, header, words};
 use memory::FRAME_BYTES;
 use monitor_contract::checks;
 use monitor_contract::refusals::Refusal;
+use monitor_tables::entries::Rights;
 use monitor_tables::way::Place;
 use monitor_tables::{entries, new_table, way};
 
-// "rights not 1, 3, 5 or 7 (1 read, 2 write, 4 execute, added up)" are refused with 8.
-// Stays: numbers. What C passes goes on as a number to entries::of_page, which codes any; an enum would be made of it and turned back.
-const R: u64 = 1;
-
-const RW: u64 = 3;
-
-const RX: u64 = 5;
-
-const RWX: u64 = 7;
-
-fn has_rights(r: u64) -> bool
-    ensures { result ≡ is_rights r }
-{
-    matches!(r, R | RW | RX | RWX)
-}
-
 // Of another guest's page, of which so much is shared: no executing; writing only where that is shared too.
 #[tactic(auto, unfolding(model::specs::Operations::shares))]
-fn shares(how: Shared, r: u64) -> bool
-    ensures { result ≡ shares_of (share_code how) r }
+fn shares(how: Shared, rights: Rights) -> bool
+    ensures { result ≡ shares_of (share_code how) (rights_number rights) }
 {
-    how != Shared::Nothing && r < entries::EXECUTE && (r < entries::WRITE || how == Shared::Writing)
+    match rights {
+        Rights::Read => how != Shared::Nothing,
+        Rights::ReadWrite => how == Shared::Writing,
+        Rights::ReadExecute | Rights::ReadWriteExecute => false,
+    }
 }
 
 #[tactic(auto, using(crate::proofs::Laws::Map::shares_known))]
-fn may_map(ledger: &[u32], f: u64, g: u64, r: u64) -> bool
+fn may_map(ledger: &[u32], f: u64, g: u64, rights: Rights) -> bool
     requires ledger_sound { LedgerSound ledger.now }
     requires f_bound { f < size_of ledger.now }
     requires g_value { is_guest g ≡ true }
-    ensures { result ≡ allows ledger.now f g r }
+    ensures { result ≡ allows ledger.now f g (rights_number rights) }
 {
     frame::is_page_of(ledger, f, g)
-        || (frame::is_page(ledger, f) && shares(frame::sharing(ledger, f, g), r))
+        || (frame::is_page(ledger, f) && shares(frame::sharing(ledger, f, g), rights))
 }
 
 // The tests that look at no table.
 // Stays: f, g, a and r are four numbers, as in `mapping f g a r`: every clause here would take a struct of them apart again.
-#[tactic(auto, using(ledger::proofs::Laws::Sound::guest_there), unfolding(model::specs::Operations::check, model::specs::Operations::may_map, ledger::specs::Layout::state_in))]
+#[tactic(auto, unfolding(model::specs::Operations::check, model::specs::Operations::may_map, ledger::specs::Layout::state_in))]
 fn check_map(ram: &[u8], ledger: &[u32], f: u64, g: u64, a: u64, r: u64) -> Result<(), Refusal>
     requires { Sound ram.now ledger.now }
     ensures { answer_number result ≡ first_refusal (state_of ram.now ledger.now) f g a r }
@@ -73,11 +63,9 @@ fn check_map(ram: &[u8], ledger: &[u32], f: u64, g: u64, a: u64, r: u64) -> Resu
     if !entries::is_page_address(a) {
         return Err(Refusal::NoPageAddress);
     }
-    if !has_rights(r) {
-        return Err(Refusal::NoRights);
-    }
+    let rights = Rights::try_from(r).or(Err(Refusal::NoRights))?;
     checks::frame_exists(ledger, f)?;
-    if !may_map(ledger, f, g, r) {
+    if !may_map(ledger, f, g, rights) {
         return Err(Refusal::NotItsPage);
     }
     Ok(())

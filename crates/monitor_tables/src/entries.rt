@@ -5,6 +5,7 @@ ghost use Rattle.model.specs.State.{page_count};
 ghost use Rattle.model.specs.Entry.{entry, to_table, table_entry, page_entry};
 ghost use Rattle.model.specs.Operations.{page_address};
 ghost use Rattle.monitor_tables.specs.Entries.{ToTable, ToPage, LeadsTo};
+ghost use Rattle.monitor_tables.specs.Rights.{rights_number, ReadsRights};
 
 use memory::{ADDRESS_END, FRAME_BYTES};
 
@@ -24,10 +25,47 @@ const WRITE_BIT: u64 = 0x80;
 
 const NO_EXECUTE_BIT: u64 = 0x40000000000000;
 
-// "1 read, 2 write, 4 execute, added up"; all rights have read.
-pub const WRITE: u64 = 2;
+// What a number of rights is divided by for its bit.
+const WRITE: u64 = 2;
 
-pub const EXECUTE: u64 = 4;
+const EXECUTE: u64 = 4;
+
+// "1, 3, 5 or 7 (1 read, 2 write, 4 execute, added up)"
+#[derive(Clone, Copy, PartialEq, Eq)]
+pub enum Rights {
+    Read = 1,
+    ReadWrite = 3,
+    ReadExecute = 5,
+    ReadWriteExecute = 7,
+}
+
+impl From<Rights> for u64 {
+    ghost from_gives = { λ rights number. number ≡ rights_number rights };
+
+    fn from(rights: Rights) -> u64 {
+        rights as u64
+    }
+}
+
+// A number that is no rights.
+#[derive(Clone, Copy, PartialEq, Eq)]
+pub struct NoRights(pub u64);
+
+impl TryFrom<u64> for Rights {
+    type Error = NoRights;
+
+    ghost try_from_gives = { ReadsRights };
+
+    fn try_from(number: u64) -> Result<Self, NoRights> {
+        match number {
+            1 => Ok(Rights::Read),
+            3 => Ok(Rights::ReadWrite),
+            5 => Ok(Rights::ReadExecute),
+            7 => Ok(Rights::ReadWriteExecute),
+            _ => Err(NoRights(number)),
+        }
+    }
+}
 
 // Not so, 7: "guest-physical address not a multiple of 4,096, or 2^48 or more".
 pub fn is_page_address(a: u64) -> bool
@@ -46,6 +84,7 @@ pub fn of_table(first: u64, t: u64) -> u64
 }
 
 // The entry that leads to frame f with rights r.
+// Stays: r is a number, since it answers for every number, also one that is no rights (`page_entry first f r`).
 #[tactic(auto, unfolding(model::specs::Entry::page_entry))]
 pub fn of_page(first: u64, f: u64, r: u64) -> u64
     requires { first + f < page_count }
