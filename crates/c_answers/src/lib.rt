@@ -14,6 +14,7 @@ use numbers::{
     TRANSLATION, WALK_ABORT,
 };
 use walk::{Answer, FaultKind};
+use walk_descriptor::Stage;
 
 mod numbers;
 
@@ -48,7 +49,15 @@ fn numbers_of_walk(answer: Answer) -> [u64; ANSWER_NUMBERS]
             level,
             of,
             fetched,
-        } => [DURING, 0, number_of_kind(kind), 2, level, of, fetched],
+        } => [
+            DURING,
+            0,
+            number_of_kind(kind),
+            Stage::Two as u64,
+            level,
+            of,
+            fetched,
+        ],
         Answer::Refused => [REFUSED, 0, 0, 0, 0, 0, 0],
     }
 }

@@ -1,4 +1,5 @@
 // The ledger right after set-up: the first k frames are the monitor's, and every other is free, the lowest first in order.
+// Stays: the bound on n stands in each contract: n is a plain number, and no ledger is there yet that would hold it.
 ghost use Rattle.std.specs.Prelude.{◌≡◌, ◌+◌, ◌-◌, ◌<◌, ◌≤◌, length};
 ghost use Rattle.ledger.specs.Kinds.{kind_code};
 ghost use Rattle.ledger.specs.Layout.{words_for};

@@ -77,8 +77,9 @@ fn plan_map(ram: &[u8], ledger: &[u32], f: u64, g: u64, a: u64, r: u64) -> Resul
     ensures { IsMapPlan (state_of ram.now ledger.now) f g a r (pick_of ledger.now) result }
 {
     check_map(ram, ledger, f, g, a, r)?;
-    let place = way::descend(ram, ledger, g, a / FRAME_BYTES);
-    if way::is_mapped(ram, ledger, g, a / FRAME_BYTES, place) {
+    let page = a / FRAME_BYTES;
+    let place = way::descend(ram, ledger, g, page);
+    if way::is_mapped(ram, ledger, g, page, place) {
         return Err(Refusal::MappedAlready);
     }
     if header::free(ledger) < place.height {

@@ -14,7 +14,7 @@ use memory::FRAME_BYTES;
 use walk::Answer;
 
 // What a frame is; Outside where there is no such frame. A page is mapped in so many places.
-// Stays: Outside and Nobody are told to C as one kind among the others (`frame_answer`, `guest_answer`), and so are no None.
+// Stays: Outside and Nobody are no None, since `frame_told` and `guest_told` have them as one kind among the others.
 #[derive(Clone, Copy, PartialEq, Eq)]
 pub enum FrameKind {
     Outside,

@@ -1,5 +1,6 @@
 // The script language: a line is read, the machine answers its command, and the answer is printed.
 // It reads and writes nothing outside of the slices that it is lent.
+// Stays: RAM, ledger and output beside the machine: slices are parameters (docs/DECISIONS.md, 60).
 #![tactic(auto)]
 
 ghost use Rattle.std.specs.Prelude.{◌≤◌, length};
@@ -11,7 +12,7 @@ mod print;
 
 use print::{put_mistake, put_reply};
 use script_language::{Command, read_line};
-use script_machine::{Machine, execute};
+use script_machine::{Machine, Outcome, execute};
 
 // The machine after a line, and how many bytes were printed.
 #[derive(Drop)]
@@ -32,9 +33,7 @@ fn answer_command(
     ensures { LineAnswered (Ok (Some c)) m ram.old ledger.old
         ram.new ledger.new out.new result }
 {
-    let o = execute(c, m, ram, ledger);
-    let machine = o.machine;
-    let reply = o.reply;
+    let Outcome { machine, reply } = execute(c, m, ram, ledger);
     let printed = put_reply(out, reply, machine, ram, ledger);
     Answered { machine, printed }
 }

@@ -22,6 +22,7 @@ const LINE_LIMIT: usize = 4096;
 const MOST_ARGUMENTS: usize = 5;
 
 // An operation of the monitor (document 03, section 3), as a script names it.
+// Stays: rights and writing are numbers, which a script may write as it likes: the monitor refuses those that are none.
 #[derive(Drop)]
 pub enum Operation {
     Create {

@@ -5,6 +5,7 @@ ghost use Rattle.script_print.specs.Answer.{name_bytes, fault_bytes, during_byte
 
 use script_text::digits::{put, put_field, put_hex};
 use walk::{Answer, FaultKind};
+use walk_descriptor::Stage;
 
 // A fault by its name.
 #[tactic(auto, unfolding(crate::specs::Answer::kind_text))]
@@ -22,6 +23,7 @@ fn kind_text(k: FaultKind) -> &'static [u8]
 }
 
 #[tactic(auto, unfolding(crate::specs::Answer::fault_text))]
+// Stays: the stage is a number, as `walk::Answer` has it.
 fn put_fault(out: &mut [u8], at: usize, k: FaultKind, stage: u64, level: u64) -> usize
     requires { at + fault_bytes ≤ length out.old }
     ensures { Wrote fault_bytes out.old at out.new result (fault_text k stage level) }
@@ -44,7 +46,7 @@ fn put_during(out: &mut [u8], at: usize, k: FaultKind, level: u64, of: u64) -> u
     requires { at + during_bytes ≤ length out.old }
     ensures { Wrote during_bytes out.old at out.new result (during_text k level of) }
 {
-    let next = put_fault(out, at, k, 2, level);
+    let next = put_fault(out, at, k, Stage::Two as u64, level);
     put_field(out, next, b" during stage 1 level ", of)
 }
 

@@ -90,6 +90,7 @@ fn put_page(
 }
 
 // What `frame` prints.
+// Stays: the text "4" and no Refusal: `frame_text` says so, and the text is all that is put.
 #[tactic(auto, unfolding(crate::specs::Frame::frame_text, crate::specs::Frame::frame_kind_text))]
 pub fn put_frame(out: &mut [u8], at: usize, ram: &[u8], ledger: &[u32], f: u64) -> usize
     requires sound { Sound ram.now ledger.now }

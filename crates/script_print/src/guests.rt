@@ -19,6 +19,7 @@ fn put_dirty(out: &mut [u8], at: usize, dirty: bool) -> usize
 }
 
 // What `guest` prints.
+// Stays: the text "1" and no Refusal: `guest_text` says so, and the text is all that is put.
 #[tactic(auto, unfolding(crate::specs::Guest::guest_text))]
 pub fn put_guest(out: &mut [u8], at: usize, g: GuestKind) -> usize
     requires { at + guest_bytes ≤ length out.old }

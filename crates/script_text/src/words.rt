@@ -36,6 +36,7 @@ fn is_blank(c: u8) -> bool
 }
 
 // The first place from `from` on that is no blank, or the end.
+// Stays: beside word_end, each one `position` of the other test: a function of both would have a clause on the test.
 pub fn word_start(s: &[u8], from: usize) -> usize
     requires { from ≤ length s.now }
     ensures { (result ≤ length s.now) × (drop result s.now ≡ after_blanks (drop from s.now)) }
@@ -56,6 +57,7 @@ pub fn word_end(s: &[u8], from: usize) -> usize
     from + rest.iter().position(|&c| is_blank(c)).unwrap_or(rest.len())
 }
 
+// Stays: docs/assurance/functions.md names it; what compares two texts here writes `==`.
 #[tactic(auto, using(crate::proofs::Laws::Scanning::same_bytes))]
 pub fn same_text(a: &[u8], b: &[u8]) -> bool
     ensures { result ≡ same_text a.now b.now }

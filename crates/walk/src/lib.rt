@@ -17,7 +17,8 @@ mod stage_2;
 pub use walk_descriptor::FaultKind;
 
 // `fetched` is the number of descriptors that were read.
-// Stays: the stage is a number, since the definitions (`as_answer` of specs/Both) and the theorems on this type say it as one.
+// Stays: the stage is a number, and Refused no Err, since the definitions (`as_answer`, `answer` of specs/Both) and the theorems on this
+// type say them so.
 #[derive(Clone, Copy)]
 pub enum Answer {
     Found {

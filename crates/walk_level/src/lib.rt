@@ -1,4 +1,5 @@
 // Document 01, sections 2 and 4: where the descriptor of a level stands, and what it comes to there.
+// Stays: level ≤ last_level in each contract. slot and examine are public and take a number; a type for a level would be made at each call.
 #![tactic(auto)]
 
 ghost use Rattle.std.specs.Prelude.{◌≡◌, cond, ◌&&◌, ◌+◌, ◌*◌, ◌-◌, ◌<◌, ◌≤◌, ◌^◌, ◌/◌, ◌%◌, eqb};
@@ -29,6 +30,7 @@ const FIRST_INDEX: u64 = 39;
 const INDEX_BITS: u64 = 9;
 
 // What the descriptor at an address comes to; Absent where it is not in RAM.
+// Stays: Absent is no None, since `step_at` of walk, which theorems are about, has it beside the others.
 #[derive(Clone, Copy)]
 pub enum Step {
     Absent,
