@@ -11,23 +11,19 @@ ghost use Rattle.monitor_contract.specs.Answers.{Answers, Done};
 ghost use Rattle.monitor_create.specs.Create.{creating};
 
 use ledger::{guest, header, kinds, words};
-use monitor_contract::refusals::Refusal;
+use monitor_contract::refusals::{Refusal, demand};
 
 #[tactic(auto, using(ledger::proofs::Laws::Sound::free_is), unfolding(model::specs::Operations::create, model::specs::Operations::check, ledger::specs::Layout::state_in))]
 fn check_create(ram: &[u8], ledger: &[u32], g: u64) -> Result<(), Refusal>
     requires { Sound ram.now ledger.now }
     ensures { answer_number result ≡ refusal (create_of (state_of ram.now ledger.now) g (pick_of ledger.now)) }
 {
-    if !guest::is_guest(g) {
-        return Err(Refusal::NoGuestNumber);
-    }
-    if guest::exists(ledger, g) || guest::dirty(ledger, g) {
-        return Err(Refusal::GuestExists);
-    }
-    if header::free(ledger) == 0 {
-        return Err(Refusal::NoFreeFrames);
-    }
-    Ok(())
+    demand(guest::is_guest(g), Refusal::NoGuestNumber)?;
+    demand(
+        !guest::exists(ledger, g) && !guest::dirty(ledger, g),
+        Refusal::GuestExists,
+    )?;
+    demand(header::free(ledger) != 0, Refusal::NoFreeFrames)
 }
 
 // The table is cleared before it is the root.

@@ -17,7 +17,7 @@ ghost use Rattle.monitor_destroy.specs.Destroy.{destroying, none_shared};
 use ledger::frame::Shared;
 use ledger::{frame, guest, header};
 use monitor_contract::checks;
-use monitor_contract::refusals::Refusal;
+use monitor_contract::refusals::{Refusal, demand};
 
 // Frame f is no page that g shares with somebody, or somebody with g.
 #[tactic(auto, using(ledger::proofs::Laws::Kinds::known_nothing), unfolding(model::specs::Operations::unshared, ledger::specs::Layout::state_in))]
@@ -51,10 +51,7 @@ fn check_destroy(ram: &[u8], ledger: &[u32], g: u64) -> Result<(), Refusal>
     ensures { answer_number result ≡ refusal (destroy_of (state_of ram.now ledger.now) g) }
 {
     checks::guest_exists(ledger, g)?;
-    if !all_unshared(ram, ledger, g) {
-        return Err(Refusal::StillUsed);
-    }
-    Ok(())
+    demand(all_unshared(ram, ledger, g), Refusal::StillUsed)
 }
 
 // Stays: beside release_all of monitor_invalidated, for the reason written there.

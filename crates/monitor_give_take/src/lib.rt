@@ -14,7 +14,7 @@ ghost use Rattle.monitor_give_take.specs.Take.{taking};
 
 use ledger::{frame, guest, words};
 use monitor_contract::checks;
-use monitor_contract::refusals::Refusal;
+use monitor_contract::refusals::{Refusal, demand};
 
 #[tactic(auto, unfolding(model::specs::Operations::give, model::specs::Operations::check, ledger::specs::Layout::state_in))]
 fn check_give(ram: &[u8], ledger: &[u32], f: u64, g: u64) -> Result<(), Refusal>
@@ -23,10 +23,7 @@ fn check_give(ram: &[u8], ledger: &[u32], f: u64, g: u64) -> Result<(), Refusal>
 {
     checks::guest_exists(ledger, g)?;
     checks::frame_exists(ledger, f)?;
-    if !frame::is_free(ledger, f) {
-        return Err(Refusal::NotFree);
-    }
-    Ok(())
+    demand(frame::is_free(ledger, f), Refusal::NotFree)
 }
 
 #[tactic(auto, using(crate::proofs::Laws::Give::give_low, crate::proofs::Laws::Give::give_free, crate::proofs::Laws::Give::give_guest))]
@@ -59,10 +56,7 @@ fn check_take(ram: &[u8], ledger: &[u32], f: u64, g: u64) -> Result<(), Refusal>
     checks::frame_exists(ledger, f)?;
     checks::is_its_page(ledger, f, g)?;
     let used = frame::uses(ledger, f);
-    if used.places != 0 || used.shares != 0 {
-        return Err(Refusal::StillUsed);
-    }
-    Ok(())
+    demand(used.places == 0 && used.shares == 0, Refusal::StillUsed)
 }
 
 #[tactic(auto, using(crate::proofs::Laws::Take::take_owned, crate::proofs::Laws::Take::take_not_free))]

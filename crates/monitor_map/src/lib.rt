@@ -21,7 +21,7 @@ use ledger::frame::Shared;
 use ledger::{frame, guest, header, words};
 use memory::FRAME_BYTES;
 use monitor_contract::checks;
-use monitor_contract::refusals::Refusal;
+use monitor_contract::refusals::{Refusal, demand};
 use monitor_tables::entries::Rights;
 use monitor_tables::way::Place;
 use monitor_tables::{entries, new_table, way};
@@ -57,18 +57,11 @@ fn check_map(ram: &[u8], ledger: &[u32], f: u64, g: u64, a: u64, r: u64) -> Resu
     ensures { answer_number result ≡ first_refusal (state_of ram.now ledger.now) f g a r }
 {
     checks::guest_exists(ledger, g)?;
-    if guest::dirty(ledger, g) {
-        return Err(Refusal::Dirty);
-    }
-    if !entries::is_page_address(a) {
-        return Err(Refusal::NoPageAddress);
-    }
+    demand(!guest::dirty(ledger, g), Refusal::Dirty)?;
+    demand(entries::is_page_address(a), Refusal::NoPageAddress)?;
     let rights = Rights::try_from(r).or(Err(Refusal::NoRights))?;
     checks::frame_exists(ledger, f)?;
-    if !may_map(ledger, f, g, rights) {
-        return Err(Refusal::NotItsPage);
-    }
-    Ok(())
+    demand(may_map(ledger, f, g, rights), Refusal::NotItsPage)
 }
 
 // The last table that is there, and its height, which is the number of tables that are missing.

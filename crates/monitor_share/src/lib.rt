@@ -17,7 +17,7 @@ ghost use Rattle.monitor_share.specs.Share.{sharing, unsharing, held_back, exten
 use ledger::frame::Shared;
 use ledger::{frame, guest};
 use monitor_contract::checks;
-use monitor_contract::refusals::Refusal;
+use monitor_contract::refusals::{Refusal, demand};
 
 // 13 while h has f mapped anywhere, 14 while h is dirty: what keeps a right from being taken away.
 fn held(ledger: &[u32], f: u64, h: u64) -> Result<(), Refusal>
@@ -26,13 +26,8 @@ fn held(ledger: &[u32], f: u64, h: u64) -> Result<(), Refusal>
     requires h_value { is_guest h ≡ true }
     ensures { answer_number result ≡ held_back (count_of ledger.now f h) (dirty_of ledger.now h) }
 {
-    if frame::count(ledger, f, h) != 0 {
-        return Err(Refusal::StillUsed);
-    }
-    if guest::dirty(ledger, h) {
-        return Err(Refusal::Dirty);
-    }
-    Ok(())
+    demand(frame::count(ledger, f, h) == 0, Refusal::StillUsed)?;
+    demand(!guest::dirty(ledger, h), Refusal::Dirty)
 }
 
 #[tactic(auto, using(crate::proofs::Laws::Share::tests), unfolding(model::specs::Operations::share, model::specs::Operations::check, ledger::specs::Layout::state_in))]
@@ -42,9 +37,7 @@ fn check_share(ram: &[u8], ledger: &[u32], g: u64, f: u64, h: u64, w: u64) -> Re
 {
     checks::guest_exists(ledger, g)?;
     checks::guest_exists(ledger, h)?;
-    if g == h {
-        return Err(Refusal::WithItself);
-    }
+    demand(g != h, Refusal::WithItself)?;
     checks::frame_exists(ledger, f)?;
     checks::is_its_page(ledger, f, g)?;
     if w == 0 && frame::sharing(ledger, f, h) == Shared::Writing {
@@ -85,9 +78,10 @@ fn check_unshare(ram: &[u8], ledger: &[u32], g: u64, f: u64, h: u64) -> Result<(
     checks::guest_exists(ledger, h)?;
     checks::frame_exists(ledger, f)?;
     checks::is_its_page(ledger, f, g)?;
-    if frame::sharing(ledger, f, h) == Shared::Nothing {
-        return Err(Refusal::NotItsPage);
-    }
+    demand(
+        frame::sharing(ledger, f, h) != Shared::Nothing,
+        Refusal::NotItsPage,
+    )?;
     held(ledger, f, h) // h loses it, so what h has mapped and kept counts
 }
 

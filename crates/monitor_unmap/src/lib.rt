@@ -15,7 +15,7 @@ ghost use Rattle.monitor_unmap.specs.Unmap.{unmapping, Slotted, IsUnmapPlan};
 use ledger::{frame, guest, header, words};
 use memory::FRAME_BYTES;
 use monitor_contract::checks;
-use monitor_contract::refusals::Refusal;
+use monitor_contract::refusals::{Refusal, demand};
 use monitor_tables::{entries, way};
 
 // What the check found: the last table, and the frame that its entry leads to.
@@ -31,14 +31,13 @@ fn plan_unmap(ram: &[u8], ledger: &[u32], a: u64, g: u64) -> Result<Slot, Refusa
     ensures { IsUnmapPlan (state_of ram.now ledger.now) a g result }
 {
     checks::guest_exists(ledger, g)?;
-    if !entries::is_page_address(a) {
-        return Err(Refusal::NoPageAddress);
-    }
+    demand(entries::is_page_address(a), Refusal::NoPageAddress)?;
     let page = a / FRAME_BYTES;
     let place = way::descend(ram, ledger, g, page);
-    if !way::is_mapped(ram, ledger, g, page, place) {
-        return Err(Refusal::NotMapped);
-    }
+    demand(
+        way::is_mapped(ram, ledger, g, page, place),
+        Refusal::NotMapped,
+    )?;
     let first = header::first(ledger);
     let x = words::entry(ram, place.table, page % way::ENTRIES);
     Ok(Slot {
