@@ -49,15 +49,10 @@ fn numbers_of_walk(answer: Answer) -> [u64; ANSWER_NUMBERS]
             level,
             of,
             fetched,
-        } => [
-            DURING,
-            0,
-            number_of_kind(kind),
-            Stage::Two as u64,
-            level,
-            of,
-            fetched,
-        ],
+        } => {
+            let two = Stage::Two as u64;
+            [DURING, 0, number_of_kind(kind), two, level, of, fetched]
+        }
         Answer::Refused => [REFUSED, 0, 0, 0, 0, 0, 0],
     }
 }
@@ -98,6 +93,7 @@ fn tell<const N: usize>(out: &mut [u64], numbers: [u64; N]) -> u64
     DONE
 }
 
+// Stays: a function for each kind of answer, which docs/assurance names; the work is tell's.
 pub fn tell_walk(out: &mut [u64], answer: Answer) -> u64
     ensures { Tells answer_numbers (walk_answer answer) out.old result out.new }
 {

@@ -63,7 +63,7 @@ impl Kind {
 }
 
 // The same by number.
-// Stays: it promises an answer for every number, also one of no kind.
+// Stays: docs/assurance/functions.md names it, and it answers for every number (`draining` of specs/Kinds).
 pub fn draining(kind: u64) -> u64
     ensures { result ≡ draining_of kind }
 {

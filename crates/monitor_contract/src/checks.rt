@@ -1,5 +1,6 @@
 // The tests that several operations make: that the guest and the frame that a caller names are there, and that the frame is the guest's
 // page. Each is refused with its own number.
+// Stays: LedgerSound in each contract: slices are parameters (docs/DECISIONS.md, 60).
 ghost use Rattle.std.specs.Prelude.{◌<◌, ltb};
 ghost use Rattle.model.specs.State.{is_page_of};
 ghost use Rattle.ledger.specs.Layout.{size_of, exists_of, kind_of};

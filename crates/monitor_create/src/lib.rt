@@ -1,5 +1,6 @@
 // Document 03, section 3: create.
 // Stays: RAM and the ledger, and Sound of both, in each contract: C lends two slices to pageledger_create (docs/DECISIONS.md, 60).
+// Stays: check, do, Ok(()): crate monitor says why.
 #![tactic(auto)]
 
 ghost use Rattle.std.specs.Prelude.{◌≡◌};

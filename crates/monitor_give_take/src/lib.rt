@@ -1,5 +1,6 @@
 // Document 03, section 3: give and take.
 // Stays: RAM and the ledger, and Sound of both, in each contract: C lends two slices to pageledger_give (docs/DECISIONS.md, 60).
+// Stays: check, do, Ok(()): crate monitor says why.
 // Stays: the numbers of an operation beside them, as in its definition: each clause would take a struct of them apart again.
 #![tactic(auto)]
 

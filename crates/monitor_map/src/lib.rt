@@ -1,5 +1,6 @@
 // Document 03, section 3: map. The check goes down the tables once, and what it finds is a plan that the doing starts from.
 // Stays: RAM and the ledger, and Sound of both, in each contract: C lends two slices to pageledger_map (docs/DECISIONS.md, 60).
+// Stays: check, do, Ok(()): crate monitor says why.
 #![tactic(auto)]
 
 ghost use Rattle.std.specs.Prelude.{◌≡◌, true, ◌+◌, ◌<◌, OnOk};
@@ -51,6 +52,7 @@ fn may_map(ledger: &[u32], f: u64, g: u64, rights: Rights) -> bool
 
 // The tests that look at no table.
 // Stays: f, g, a and r are four numbers, as in `mapping f g a r`: every clause here would take a struct of them apart again.
+// And r is the number that C passes: `mapping f g a r` promises an answer for each.
 #[tactic(auto, unfolding(model::specs::Operations::check, model::specs::Operations::may_map, ledger::specs::Layout::state_in))]
 fn check_map(ram: &[u8], ledger: &[u32], f: u64, g: u64, a: u64, r: u64) -> Result<(), Refusal>
     requires { Sound ram.now ledger.now }

@@ -5,7 +5,7 @@ ghost use Rattle.model.specs.State.{page_count};
 ghost use Rattle.model.specs.Entry.{entry, to_table, table_entry, page_entry};
 ghost use Rattle.model.specs.Operations.{page_address};
 ghost use Rattle.monitor_tables.specs.Entries.{ToTable, ToPage, LeadsTo};
-ghost use Rattle.monitor_tables.specs.Rights.{rights_number, ReadsRights};
+ghost use Rattle.monitor_tables.specs.Rights.{ReadsRights};
 
 use memory::{ADDRESS_END, FRAME_BYTES};
 
@@ -33,18 +33,10 @@ const EXECUTE: u64 = 4;
 // "1, 3, 5 or 7 (1 read, 2 write, 4 execute, added up)"
 #[derive(Clone, Copy, PartialEq, Eq)]
 pub enum Rights {
-    Read = 1,
-    ReadWrite = 3,
-    ReadExecute = 5,
-    ReadWriteExecute = 7,
-}
-
-impl From<Rights> for u64 {
-    ghost from_gives = { λ rights number. number ≡ rights_number rights };
-
-    fn from(rights: Rights) -> u64 {
-        rights as u64
-    }
+    Read,
+    ReadWrite,
+    ReadExecute,
+    ReadWriteExecute,
 }
 
 // A number that is no rights.

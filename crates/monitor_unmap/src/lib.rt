@@ -1,5 +1,6 @@
 // Document 03, section 3: unmap. The check goes down the tables once, and what it finds is a plan that the doing starts from.
 // Stays: RAM and the ledger, and Sound of both, in each contract: C lends two slices to pageledger_unmap (docs/DECISIONS.md, 60).
+// Stays: check, do, Ok(()): crate monitor says why.
 #![tactic(auto)]
 
 ghost use Rattle.std.specs.Prelude.{OnOk};

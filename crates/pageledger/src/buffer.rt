@@ -5,6 +5,7 @@ use std::io::Write;
 use std::marker::Model;
 
 // Memory for N bytes; the first `length` are gathered.
+// Stays: bytes with a length and no Vec: no heap, fixed memory (docs/DECISIONS.md, 60).
 #[derive(Drop)]
 pub(crate) struct Buffer<const N: usize> {
     pub(crate) bytes: [u8; N],

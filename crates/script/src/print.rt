@@ -1,4 +1,5 @@
 // A reply as a line of text, at the start of a slice that the caller lends.
+// Stays: put_.. and no Display, as in script_print.
 ghost use Rattle.std.specs.Prelude.{◌≡◌, true, ◌+◌, ◌*◌, ◌≤◌, length};
 ghost use Rattle.script_text.specs.Wrote.{Wrote};
 ghost use Rattle.ledger.specs.Layout.{state_of};

@@ -66,6 +66,7 @@ pub enum Operation {
 }
 
 // What a command asks that changes nothing.
+// Stays: access and el are numbers; arguments.rt says why.
 #[derive(Drop)]
 pub enum Question {
     PeekWord {

@@ -17,7 +17,7 @@ impl Machine {
     }
 
     // How many words its ledger has.
-    // Stays: beside ledger::words_for, which asks for few enough frames: `setup` has not tested its number yet.
+    // Stays: beside ledger::words_for, which asks for few enough frames: `ledger` asks only that the words are there.
     pub(crate) fn ledger_words(self) -> usize
         requires { words_for self.frames < 2 ^ 64 }
         ensures { result ≡ words_for self.frames }

@@ -28,6 +28,7 @@ pub fn put(out: &mut [u8], at: usize, text: &[u8]) -> usize
 }
 
 // The character of a digit: 0 to 9, then a to f.
+// Stays: char::from_digit answers an Option of a char, which would have to be made a byte again.
 #[tactic(auto, unfolding(crate::specs::Digits::digit_character))]
 fn digit_character(d: u64) -> u8
     requires { d < 16 }

@@ -1,5 +1,6 @@
 // Document 01: what an address translates to, whatever the memory image holds.
 // Nothing is asked of the caller: numbers that do not fit are refused.
+// Stays: level ≤ last_level in each contract inside, as in walk_level.
 #![tactic(auto)]
 
 ghost use Rattle.std.specs.Prelude.{◌≡◌, ◌&&◌, ltb};

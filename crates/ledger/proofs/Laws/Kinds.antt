@@ -7,7 +7,7 @@ use native.Mathlib.Omega.{arith}
 use lib.Dec.{eqb, ltb, leb}
 use borrow.Author.Tests.{lt-ltb, le-ltb, le-leb, ne_eqb}
 use Rattle.model.proofs.Laws.Base.{eq?, lt?}
-use Rattle.model.specs.State.{KindOfFrame, monitor, free, table, draining_table, page, draining_page, is_free, is_page_of}
+use Rattle.model.specs.State.{KindOfFrame, monitor, free, table, draining_table, page, draining_page, is_free, is_page, is_page_of}
 use Rattle.model.specs.Changes.{drained, released}
 use Rattle.model.specs.State.{NOTHING, WRITING, kind_number, MONITOR, FREE, TABLE, DRAINING_TABLE, PAGE, DRAINING_PAGE}
 use Rattle.ledger.specs.Columns.{KIND, GUEST, HEIGHT, RANGE}
@@ -52,6 +52,9 @@ module _ (g h p : ℕ) where
   -- the tests of a stored kind
   pub free_test : (k : ℕ) → is_free (kind_at k g h p) ≡ eqb k FREE
   free_test = each (λ k x. is_free x ≡ eqb k FREE) refl refl refl refl refl (λ k o. sym (ne_eqb k FREE o.0))
+
+  pub page_test : (k : ℕ) → is_page (kind_at k g h p) ≡ eqb k PAGE
+  page_test = each (λ k x. is_page x ≡ eqb k PAGE) refl refl refl refl refl (λ k o. sym (ne_eqb k PAGE o.3))
 
   pub page_of_test : (x k : ℕ) → is_page_of (kind_at k g h p) x ≡ eqb (cond (eqb g x) k MONITOR) PAGE
   page_of_test x = each (λ k y. is_page_of y x ≡ eqb (cond (eqb g x) k MONITOR) PAGE)
