@@ -95,8 +95,8 @@ def uses_vectors(word):
 
 def one_register(word):
     """A load or store of one register: its size in bytes, whether it loads, and its base register; else None."""
-    if (word >> 27) & 0b111 != 0b111 or uses_vectors(word):
-        return None
+    if (word >> 27) & 0b111 != 0b111 or not loads_or_stores(word) or uses_vectors(word):
+        return None  # a conditional compare (ccmp) has the first of these bits, too
     return 1 << (word >> 30), (word >> 22) & 3 != 0, (word >> 5) & 31
 
 

@@ -1,4 +1,5 @@
-// Document 03: set-up and the nine operations. Each promises what the monitor's function of that name promises.
+// Document 03: set-up and the nine operations. Each promises what the monitor's function of that name promises, of the answer's number.
+// Stays: numbers and slices, as include/pageledger.h has them, and a function of its own for each: a refusal is turned into its number.
 ghost use Rattle.std.specs.Prelude.{◌≡◌};
 ghost use Rattle.std.proofs.Math.Option.{none, some};
 ghost use Rattle.model.specs.Machine.{Map, Unmap};
@@ -16,7 +17,7 @@ ghost use Rattle.monitor.specs.Take.{taking};
 ghost use Rattle.monitor.specs.Destroy.{destroying};
 ghost use Rattle.monitor.specs.Invalidated.{invalidating};
 
-use monitor::start;
+use monitor::{refusals, start};
 
 // The first `reserved` of the frames from physical address `base` on are the monitor's.
 #[unsafe(no_mangle)]
@@ -29,7 +30,7 @@ pub extern "C" fn pageledger_set_up(
 ) -> u64
     ensures { SetUp base frames reserved ram.now ledger.old result ledger.new }
 {
-    start::set_up(ram, ledger, base, frames, reserved)
+    refusals::number(start::set_up(ram, ledger, base, frames, reserved))
 }
 
 #[unsafe(no_mangle)]
@@ -37,7 +38,7 @@ pub extern "C" fn pageledger_create(ram: &mut [u8], ledger: &mut [u32], guest: u
     requires { Sound ram.old ledger.old }
     ensures { Answers (creating guest) ram.old ledger.old result ram.new ledger.new }
 {
-    monitor::create(ram, ledger, guest)
+    refusals::number(monitor::create(ram, ledger, guest))
 }
 
 #[unsafe(no_mangle)]
@@ -45,7 +46,7 @@ pub extern "C" fn pageledger_give(ram: &mut [u8], ledger: &mut [u32], frame: u64
     requires { Sound ram.old ledger.old }
     ensures { Answers (giving frame guest) ram.old ledger.old result ram.new ledger.new }
 {
-    monitor::give(ram, ledger, frame, guest)
+    refusals::number(monitor::give(ram, ledger, frame, guest))
 }
 
 // Where it answers 0, every other address translates as before, and the walk finds the frame at `ipa` with these rights.
@@ -65,7 +66,7 @@ pub extern "C" fn pageledger_map(
         ram.old ledger.old ram.new ledger.new }
     ensures finds { result ≡ 0 → Finds guest ipa (some (frame, rights)) ram.new ledger.new }
 {
-    monitor::map(ram, ledger, frame, guest, ipa, rights)
+    refusals::number(monitor::map(ram, ledger, frame, guest, ipa, rights))
 }
 
 // Where it answers 0, every other address translates as before, and the walk finds nothing at `ipa`.
@@ -77,7 +78,7 @@ pub extern "C" fn pageledger_unmap(ram: &mut [u8], ledger: &mut [u32], ipa: u64,
         ram.old ledger.old ram.new ledger.new }
     ensures finds { result ≡ 0 → Finds guest ipa none ram.new ledger.new }
 {
-    monitor::unmap(ram, ledger, ipa, guest)
+    refusals::number(monitor::unmap(ram, ledger, ipa, guest))
 }
 
 #[unsafe(no_mangle)]
@@ -93,7 +94,7 @@ pub extern "C" fn pageledger_share(
     ensures { Answers (sharing_of owner frame with writing)
         ram.now ledger.old result ram.now ledger.new }
 {
-    monitor::share(ram, ledger, owner, frame, with, writing)
+    refusals::number(monitor::share(ram, ledger, owner, frame, with, writing))
 }
 
 #[unsafe(no_mangle)]
@@ -108,7 +109,7 @@ pub extern "C" fn pageledger_unshare(
     ensures { Answers (unsharing owner frame with)
         ram.now ledger.old result ram.now ledger.new }
 {
-    monitor::unshare(ram, ledger, owner, frame, with)
+    refusals::number(monitor::unshare(ram, ledger, owner, frame, with))
 }
 
 #[unsafe(no_mangle)]
@@ -116,7 +117,7 @@ pub extern "C" fn pageledger_take(ram: &[u8], ledger: &mut [u32], frame: u64, ow
     requires { Sound ram.now ledger.old }
     ensures { Answers (taking frame owner) ram.now ledger.old result ram.now ledger.new }
 {
-    monitor::take(ram, ledger, frame, owner)
+    refusals::number(monitor::take(ram, ledger, frame, owner))
 }
 
 #[unsafe(no_mangle)]
@@ -124,7 +125,7 @@ pub extern "C" fn pageledger_destroy(ram: &[u8], ledger: &mut [u32], guest: u64)
     requires { Sound ram.now ledger.old }
     ensures { Answers (destroying guest) ram.now ledger.old result ram.now ledger.new }
 {
-    monitor::destroy(ram, ledger, guest)
+    refusals::number(monitor::destroy(ram, ledger, guest))
 }
 
 #[unsafe(no_mangle)]
@@ -132,5 +133,5 @@ pub extern "C" fn pageledger_invalidated(ram: &[u8], ledger: &mut [u32], guest: 
     requires { Sound ram.now ledger.old }
     ensures { Answers (invalidating guest) ram.now ledger.old result ram.now ledger.new }
 {
-    monitor::invalidated(ram, ledger, guest)
+    refusals::number(monitor::invalidated(ram, ledger, guest))
 }

@@ -1,4 +1,5 @@
 // What a host may ask of the two slices; nothing but the lent array for the answer is changed.
+// Stays: numbers and slices, and a function of its own for each of include/pageledger.h: that is the interface to C.
 ghost use Rattle.std.specs.Prelude.{◌≡◌};
 ghost use Rattle.ledger.specs.Layout.{state_of};
 ghost use Rattle.ledger.specs.Sound.{Sound};

@@ -1,4 +1,5 @@
 // Document 01: the walk, on any bytes.
+// Stays: numbers and slices, and a function of its own for each of include/pageledger.h: that is the interface to C.
 ghost use Rattle.walk.specs.Both.{answer_2, answer as answer_of};
 ghost use Rattle.c_answers.specs.Numbers.{answer_numbers};
 ghost use Rattle.c_answers.specs.Answers.{walk_answer, Tells};

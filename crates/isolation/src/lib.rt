@@ -1,7 +1,3 @@
 // The third demand, of the model and of the two lent slices that the code works on. The theorems are in
 // proofs/Theorems, and words of two of them in specs/.
 #![tactic(auto)]
-
-pub fn same(x: usize) -> usize {
-    x
-}

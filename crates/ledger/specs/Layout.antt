@@ -1,7 +1,7 @@
 -- How document 03, section 1 lies in the lent ledger, a slice of 32-bit words in rows of 16 (64 bytes).
 -- Row 0 is the header, rows 1 to 8 are guests 1 to 8, row 9 + f is frame f. There is room for 8 guests and 2,097,152 frames.
 -- The columns of each row, and what stands in them: Columns.
-use Rattle.std.specs.Prelude.{◌≡◌, Bool, cond, List, ℕ, ◌+◌, ◌*◌, ◌-◌, ◌≤◌, ◌<◌, ◌/◌, ◌%◌, eqb, ltb, length}
+use Rattle.std.specs.Prelude.{Bool, cond, List, ℕ, ◌+◌, ◌*◌, ◌-◌, ◌≤◌, ◌<◌, ◌/◌, ◌%◌, eqb, ltb, length}
 use Rattle.memory.specs.Word.{word_at}
 use Rattle.model.specs.State.{FREE, TABLE, DRAINING_TABLE, PAGE, DRAINING_PAGE, State, KindOfFrame, monitor, free, table, draining_table, page, draining_page, is_guest}
 use Rattle.ledger.specs.Columns.{ROW_WORDS, GUEST_ROWS, HEADER_WORDS, room_for_frames, WORD_LIMIT, HEADER, FREE_COUNT, FRAME_COUNT, FIRST_LOW, FIRST_HIGH, EXISTS, DIRTY, ROOT, YES, KIND, GUEST, HEIGHT, RANGE, CELLS, SHARE_UNIT, FRAME_AT}
@@ -98,10 +98,6 @@ shared_of l = per_guest share_part (frames l)
 
 abbrev pub count_of : List ℕ → (f g : ℕ) → ℕ
 count_of l = per_guest count_part (frames l)
-
--- x is the two numbers of frame f's cell for guest g
-abbrev pub Cell : List ℕ → (f g x : ℕ) → Type 0
-Cell l f g x = (x / SHARE_UNIT ≡ shared_of l f g) × (x % SHARE_UNIT ≡ count_of l f g) × (x < WORD_LIMIT)
 
 abbrev pub exists_of : List ℕ → ℕ → Bool
 exists_of l = exists_in (guest_rows l)

@@ -1,4 +1,5 @@
 // The ledger's rows and columns by name; specs/Columns.antt has the same names for the definitions.
+// They are said twice, so that a number that is changed here alone is refused.
 
 // A row, of 64 bytes.
 pub const ROW_WORDS: u64 = 16;

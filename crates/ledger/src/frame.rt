@@ -1,22 +1,60 @@
 // A frame's row: what it is, whom it is shared with, and in how many places it is mapped.
 // A clause reads a constant of the code where the code has one of the name: so the definitions' have another here.
-ghost use Rattle.std.specs.Prelude.{◌≡◌, true, ◌+◌, ◌*◌, ◌<◌, ◌≤◌};
-ghost use Rattle.model.specs.State.{kind_number, is_free, is_page, is_page_of, is_guest, total, WRITING as writing};
+ghost use Rattle.std.specs.Prelude.{◌≡◌, true, ◌+◌, ◌*◌, ◌<◌};
+ghost use Rattle.model.specs.State.{kind_number, is_free, is_page, is_page_of, is_guest, total};
 ghost use Rattle.ledger.specs.Columns.{SHARE_UNIT as share_unit, WORD_LIMIT};
-ghost use Rattle.ledger.specs.Layout.{frames, size_of, kind_of, shared_of, count_of, Cell};
-ghost use Rattle.ledger.specs.Kinds.{guest_in, kind_for};
+ghost use Rattle.ledger.specs.Layout.{frames, size_of, kind_of, shared_of, count_of};
+ghost use Rattle.ledger.specs.Kinds.{guest_in, kind_code, kind_for, share_code, known_share};
 ghost use Rattle.ledger.specs.Fields.{with_cell, with_share, with_no_shares, with_count};
 ghost use Rattle.ledger.specs.LedgerSound.{LedgerSound, Changed};
 
 use super::columns::SHARE_UNIT;
-use super::{GUESTS, cells, columns, kinds};
+use super::kinds::Kind;
+use super::{GUESTS, cells, columns};
+
+// The owner of a frame that is no guest's.
+const NOBODY: u64 = 0;
 
 // What of a page is shared with a guest: nothing, reading, or writing too.
-pub const NOTHING: u64 = 0;
+#[derive(Clone, Copy, PartialEq, Eq)]
+pub enum Shared {
+    Nothing,
+    Reading,
+    Writing,
+}
 
-pub const READING: u64 = 1;
+// Its numbers, as the variants are numbered from 0 on.
+const NOTHING: u64 = 0;
 
-pub const WRITING: u64 = 2;
+const READING: u64 = 1;
+
+impl From<Shared> for u64 {
+    ghost from_gives = { λ shared number. number ≡ share_code shared };
+
+    fn from(shared: Shared) -> u64 {
+        shared as u64
+    }
+}
+
+// A number above that of writing reads as it does.
+impl From<u64> for Shared {
+    ghost from_gives = { λ number shared. share_code shared ≡ known_share number };
+
+    fn from(number: u64) -> Shared {
+        match number {
+            NOTHING => Shared::Nothing,
+            READING => Shared::Reading,
+            _ => Shared::Writing,
+        }
+    }
+}
+
+// A guest's use of a frame, which its cell holds: what is shared with it, and in how many places it maps the frame.
+#[derive(Clone, Copy)]
+struct Use {
+    share: u64,
+    count: u64,
+}
 
 #[derive(Drop)]
 pub struct Totals {
@@ -24,29 +62,27 @@ pub struct Totals {
     pub shares: u64,
 }
 
-// What it is: one of `kinds`.
-pub fn kind(ledger: &[u32], f: u64) -> u64
+#[tactic(auto, using(crate::proofs::Laws::Kinds::number_here))]
+pub fn kind(ledger: &[u32], f: u64) -> Kind
     requires ledger_sound { LedgerSound ledger.now }
     requires f_bound { f < size_of ledger.now }
-    ensures { result ≡ kind_number (kind_of ledger.now f) }
+    ensures { kind_code result ≡ kind_number (kind_of ledger.now f) }
 {
-    let k = cells::of_frame(ledger, columns::KIND, f);
-    if kinds::DRAINING_PAGE < k {
-        return kinds::MONITOR;
-    }
-    k
+    Kind::from(cells::of_frame(ledger, columns::KIND, f))
 }
 
 // Whose table or page it is, or for whom it drains; 0 nobody.
+// Stays: 0 and no Option, which would be no plainer: who asks, monitor_query::what_frame, knows by the kind whether there is an owner.
+#[tactic(auto, using(crate::proofs::Laws::Kinds::guest_here))]
 pub fn owner(ledger: &[u32], f: u64) -> u64
     requires ledger_sound { LedgerSound ledger.now }
     requires f_bound { f < size_of ledger.now }
     ensures { result ≡ guest_in (kind_of ledger.now f) }
 {
-    if kind(ledger, f) < kinds::TABLE {
-        return 0;
+    match kind(ledger, f) {
+        Kind::Monitor | Kind::Free => NOBODY,
+        _ => cells::of_frame(ledger, columns::GUEST, f),
     }
-    cells::of_frame(ledger, columns::GUEST, f)
 }
 
 pub fn is_free(ledger: &[u32], f: u64) -> bool
@@ -54,7 +90,7 @@ pub fn is_free(ledger: &[u32], f: u64) -> bool
     requires f_bound { f < size_of ledger.now }
     ensures { result ≡ is_free (kind_of ledger.now f) }
 {
-    cells::of_frame(ledger, columns::KIND, f) == kinds::FREE
+    kind(ledger, f) == Kind::Free
 }
 
 pub fn is_page(ledger: &[u32], f: u64) -> bool
@@ -62,57 +98,79 @@ pub fn is_page(ledger: &[u32], f: u64) -> bool
     requires f_bound { f < size_of ledger.now }
     ensures { result ≡ is_page (kind_of ledger.now f) }
 {
-    cells::of_frame(ledger, columns::KIND, f) == kinds::PAGE
+    kind(ledger, f) == Kind::Page
 }
 
-// What frame f is if it is stored for guest g, one of `kinds`; otherwise as if it were the monitor's.
+// The number of what frame f is if it is stored for guest g; otherwise as if it were the monitor's.
+// Stays: a number, since its clause promises the very one that is stored, of no kind too, which Kind can't tell. Kind::from reads it.
 pub fn kind_for(ledger: &[u32], f: u64, g: u64) -> u64
     requires ledger_sound { LedgerSound ledger.now }
     requires f_bound { f < size_of ledger.now }
     ensures { result ≡ kind_for (frames ledger.now) f g }
 {
-    if cells::of_frame(ledger, columns::GUEST, f) != g {
-        return kinds::MONITOR;
+    if cells::of_frame(ledger, columns::GUEST, f) == g {
+        cells::of_frame(ledger, columns::KIND, f)
+    } else {
+        u64::from(Kind::Monitor)
     }
-    cells::of_frame(ledger, columns::KIND, f)
 }
 
+#[tactic(auto, using(crate::proofs::Laws::Kinds::page_of_here))]
 pub fn is_page_of(ledger: &[u32], f: u64, g: u64) -> bool
     requires ledger_sound { LedgerSound ledger.now }
     requires f_bound { f < size_of ledger.now }
     ensures { result ≡ is_page_of (kind_of ledger.now f) g }
 {
-    kind_for(ledger, f, g) == kinds::PAGE
+    Kind::from(kind_for(ledger, f, g)) == Kind::Page
 }
 
-// The cell for guest g, which is two numbers: what is shared with g, and in how many places g maps it.
-fn cell(ledger: &[u32], f: u64, g: u64) -> u64
+#[tactic(auto, using(crate::proofs::Laws::Fields::share_is, crate::proofs::Laws::Fields::count_is))]
+fn cell(ledger: &[u32], f: u64, g: u64) -> Use
     requires ledger_sound { LedgerSound ledger.now }
     requires f_bound { f < size_of ledger.now }
     requires g_value { is_guest g ≡ true }
-    ensures { Cell ledger.now f g result }
+    ensures share { result.share ≡ shared_of ledger.now f g }
+    ensures count { result.count ≡ count_of ledger.now f g }
+    ensures fits { (result.share * share_unit + result.count < WORD_LIMIT) × (result.count < share_unit) }
 {
-    cells::of_frame(ledger, columns::CELLS + g, f)
+    let stored = cells::of_frame(ledger, columns::CELLS + g, f);
+    Use {
+        share: stored / SHARE_UNIT,
+        count: stored % SHARE_UNIT,
+    }
 }
 
-fn set_cell(ledger: &mut [u32], f: u64, g: u64, how: u64, c: u64)
+#[tactic(auto, using(crate::proofs::Laws::Stores::cell_changed))]
+fn set_cell(ledger: &mut [u32], f: u64, g: u64, theirs: Use)
     requires ledger_sound { LedgerSound ledger.old }
     requires f_bound { f < size_of ledger.old }
     requires g_value { is_guest g ≡ true }
-    requires c_bound { (how * share_unit + c < WORD_LIMIT) × (c < share_unit) }
-    ensures { Changed (with_cell f g how c) ledger.old ledger.new }
+    requires fits { (theirs.share * share_unit + theirs.count < WORD_LIMIT) × (theirs.count < share_unit) }
+    ensures { Changed (with_cell f g theirs.share theirs.count) ledger.old ledger.new }
 {
-    cells::store_of_frame(ledger, columns::CELLS + g, f, how * SHARE_UNIT + c);
+    let stored = theirs.share * SHARE_UNIT + theirs.count;
+    cells::store_of_frame(ledger, columns::CELLS + g, f, stored);
 }
 
-// What is shared with guest g: NOTHING, READING or WRITING.
+// The number of what is shared with guest g.
+// Stays: its clause promises the very number that is stored, and the cell has room for one above writing's, which Shared can't tell.
 pub fn share(ledger: &[u32], f: u64, g: u64) -> u64
     requires ledger_sound { LedgerSound ledger.now }
     requires f_bound { f < size_of ledger.now }
     requires g_value { is_guest g ≡ true }
     ensures { result ≡ shared_of ledger.now f g }
 {
-    cell(ledger, f, g) / SHARE_UNIT
+    cell(ledger, f, g).share
+}
+
+// What is shared with guest g.
+pub fn sharing(ledger: &[u32], f: u64, g: u64) -> Shared
+    requires ledger_sound { LedgerSound ledger.now }
+    requires f_bound { f < size_of ledger.now }
+    requires g_value { is_guest g ≡ true }
+    ensures { share_code result ≡ known_share (shared_of ledger.now f g) }
+{
+    Shared::from(share(ledger, f, g))
 }
 
 // In how many places guest g maps it.
@@ -122,18 +180,18 @@ pub fn count(ledger: &[u32], f: u64, g: u64) -> u64
     requires g_value { is_guest g ≡ true }
     ensures { result ≡ count_of ledger.now f g }
 {
-    cell(ledger, f, g) % SHARE_UNIT
+    cell(ledger, f, g).count
 }
 
-pub fn set_share(ledger: &mut [u32], f: u64, g: u64, how: u64)
+pub fn set_share(ledger: &mut [u32], f: u64, g: u64, how: Shared)
     requires ledger_sound { LedgerSound ledger.old }
     requires f_bound { f < size_of ledger.old }
     requires g_value { is_guest g ≡ true }
-    requires how_bound { how ≤ writing }
-    ensures { Changed (with_share f g how) ledger.old ledger.new }
+    ensures { Changed (with_share f g (share_code how)) ledger.old ledger.new }
 {
-    let x = cell(ledger, f, g);
-    set_cell(ledger, f, g, how, x % SHARE_UNIT);
+    let mut theirs = cell(ledger, f, g);
+    theirs.share = u64::from(how);
+    set_cell(ledger, f, g, theirs);
 }
 
 pub fn set_count(ledger: &mut [u32], f: u64, g: u64, c: u64)
@@ -143,8 +201,9 @@ pub fn set_count(ledger: &mut [u32], f: u64, g: u64, c: u64)
     requires c_bound { c < share_unit }
     ensures { Changed (with_count f g c) ledger.old ledger.new }
 {
-    let x = cell(ledger, f, g);
-    set_cell(ledger, f, g, x / SHARE_UNIT, c);
+    let mut theirs = cell(ledger, f, g);
+    theirs.count = c;
+    set_cell(ledger, f, g, theirs);
 }
 
 // Shared with nobody.
@@ -153,27 +212,24 @@ pub fn clear_shares(ledger: &mut [u32], f: u64)
     requires f_bound { f < size_of ledger.old }
     ensures { Changed (with_no_shares f) ledger.old ledger.new }
 {
-    let mut g: u64 = 0;
-    while g < GUESTS {
-        g += 1;
-        set_share(ledger, f, g, NOTHING);
+    for g in 1..=GUESTS {
+        set_share(ledger, f, g, Shared::Nothing);
     }
 }
 
 // What all guests together have of it: the places where they map it, and what is shared with them.
+#[tactic(auto, using(crate::proofs::Laws::Fields::none_yet, crate::proofs::Laws::Fields::one_more, crate::proofs::Laws::Fields::all_told))]
 pub fn uses(ledger: &[u32], f: u64) -> Totals
     requires ledger_sound { LedgerSound ledger.now }
     requires f_bound { f < size_of ledger.now }
     ensures { (result.places ≡ total (count_of ledger.now f)) × (result.shares ≡ total (shared_of ledger.now f)) }
 {
-    let mut places: u64 = 0;
-    let mut shares: u64 = 0;
-    let mut g: u64 = 0;
-    while g < GUESTS {
-        g += 1;
-        let x = cell(ledger, f, g);
-        places += x % SHARE_UNIT;
-        shares += x / SHARE_UNIT;
+    let mut places = 0;
+    let mut shares = 0;
+    for g in 1..=GUESTS {
+        let theirs = cell(ledger, f, g);
+        places += theirs.count;
+        shares += theirs.share;
     }
     Totals { places, shares }
 }

@@ -7,6 +7,7 @@ ghost use Rattle.ledger.specs.Sound.{free_of};
 
 use super::{cells, columns};
 
+#[tactic(auto, unfolding(crate::specs::Layout::size_in))]
 pub fn size(ledger: &[u32]) -> u64
     requires { LedgerSound ledger.now }
     ensures { (result ≡ size_of ledger.now) × (result < WORD_LIMIT) }
@@ -15,6 +16,7 @@ pub fn size(ledger: &[u32]) -> u64
 }
 
 // The number of RAM's first frame in physical memory, b / 4096.
+#[tactic(auto, unfolding(crate::specs::Layout::first_in))]
 pub fn first(ledger: &[u32]) -> u64
     requires { LedgerSound ledger.now }
     ensures { result ≡ first_of ledger.now }

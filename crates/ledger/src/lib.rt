@@ -1,5 +1,7 @@
 // The stored ledger of document 03, section 1, in a lent slice outside RAM; specs/Layout.antt tells how it lies there.
 // A function that stores says by Changed what becomes of the state of the two slices, and no caller sees where.
+// Stays: what the contracts ask of a ledger, a frame and a guest (LedgerSound, f < size_of, is_guest g) stands in each of them: slices are
+// parameters (docs/DECISIONS.md, 60), and each clause is about the number f or g, which a type of its own would hand back at each call.
 #![tactic(auto)]
 
 ghost use Rattle.std.specs.Prelude.{◌≡◌, ◌≤◌};

@@ -1,17 +1,23 @@
 // The free frames, a sparse set: taking any, taking a named one and putting one back each exchange two places.
+// Stays: a permutation of frames in cells of the ledger, and no collection of the library: the ledger is a lent slice, with no heap.
+// Stays: what the contracts ask of a ledger and a frame stands in each of them, as in crate ledger (docs/DECISIONS.md, 60).
+// Stays: drain beside release, and become_page beside become_table: other kinds, and as many cells as the kind has, over one store_kind.
 #![tactic(auto)]
 
 ghost use Rattle.std.specs.Prelude.{◌≡◌, false, ◌<◌, ◌^◌};
 ghost use Rattle.model.specs.State.{free, table, page, is_free};
 ghost use Rattle.model.specs.Changes.{drained, released};
-ghost use Rattle.ledger.specs.Columns.{WORD_LIMIT, GUEST_ROWS};
+ghost use Rattle.ledger.specs.Columns.{WORD_LIMIT, GUEST_ROWS, HEADER_WORDS, KIND};
+ghost use Rattle.ledger.specs.Cells.{store};
 ghost use Rattle.ledger.specs.Layout.{size_of, kind_of, Row};
+ghost use Rattle.ledger.specs.Kinds.{kind_code};
 ghost use Rattle.ledger.specs.Fields.{with_kind, with_kind_by};
 ghost use Rattle.ledger.specs.LedgerSound.{LedgerSound, Changed, Taken};
 ghost use Rattle.ledger_free.specs.Moves.{Next, placed, exchanged, settled, occupied};
 ghost use Rattle.ledger.specs.Sound.{free_of};
 
-use ledger::{cells, columns, frame, kinds};
+use ledger::kinds::Kind;
+use ledger::{cells, columns, frame, header};
 
 pub mod start;
 
@@ -21,11 +27,18 @@ pub fn next(ledger: &[u32]) -> u64
     requires ledger_nonzero { 0 < free_of ledger.now }
     ensures { Next ledger.now result }
 {
-    let last = cells::of_guest(ledger, columns::FREE_COUNT, columns::HEADER) - 1;
-    cells::of_frame(ledger, columns::FRAME_AT, last)
+    cells::of_frame(ledger, columns::FRAME_AT, header::free(ledger) - 1)
+}
+
+fn store_kind(ledger: &mut [u32], f: u64, kind: Kind)
+    requires { Row ledger.old f }
+    ensures { ledger.new ≡ store HEADER_WORDS ledger.old KIND f (kind_code kind) }
+{
+    cells::store_of_frame(ledger, columns::KIND, f, u64::from(kind));
 }
 
 // Frame f stands at place q.
+#[tactic(auto, unfolding(crate::specs::Moves::placed))]
 fn place(ledger: &mut [u32], f: u64, q: u64)
     requires row { Row ledger.old f }
     requires row_2 { Row ledger.old q }
@@ -36,6 +49,7 @@ fn place(ledger: &mut [u32], f: u64, q: u64)
 }
 
 // Frame f and the one at place q change places.
+#[tactic(auto, unfolding(crate::specs::Moves::exchanged))]
 fn exchange(ledger: &mut [u32], f: u64, q: u64)
     requires ledger_sound { LedgerSound ledger.old }
     requires f_bound { (f < size_of ledger.old) × (q < size_of ledger.old) }
@@ -47,28 +61,29 @@ fn exchange(ledger: &mut [u32], f: u64, q: u64)
     place(ledger, f, q);
 }
 
-// Frame f changes places with the one at q and becomes k; so many frames are free then.
-fn settle(ledger: &mut [u32], f: u64, q: u64, k: u64, count: u64)
+// Frame f changes places with the one at q and becomes another kind; so many frames are free then.
+#[tactic(auto, unfolding(crate::specs::Moves::settled))]
+fn settle(ledger: &mut [u32], f: u64, q: u64, kind: Kind, count: u64)
     requires ledger_sound { LedgerSound ledger.old }
     requires f_bound { (f < size_of ledger.old) × (q < size_of ledger.old) }
-    requires k_bound { (k < WORD_LIMIT) × (count < WORD_LIMIT) }
-    ensures { ledger.new ≡ settled ledger.old f q k count }
+    requires count_bound { count < WORD_LIMIT }
+    ensures { ledger.new ≡ settled ledger.old f q (kind_code kind) count }
 {
     exchange(ledger, f, q);
     cells::store_of_guest(ledger, columns::FREE_COUNT, columns::HEADER, count);
-    cells::store_of_frame(ledger, columns::KIND, f, k);
+    store_kind(ledger, f, kind);
 }
 
-// The free frame f leaves the set and becomes k.
-fn occupy(ledger: &mut [u32], f: u64, k: u64)
+// The free frame f leaves the set and becomes another kind.
+#[tactic(auto, using(crate::proofs::Laws::Moves::last_place))]
+fn occupy(ledger: &mut [u32], f: u64, kind: Kind)
     requires ledger_sound { LedgerSound ledger.old }
     requires f_bound { f < size_of ledger.old }
     requires f_value { kind_of ledger.old f ≡ free }
-    requires k_bound { k < WORD_LIMIT }
-    ensures { ledger.new ≡ occupied ledger.old f k }
+    ensures { ledger.new ≡ occupied ledger.old f (kind_code kind) }
 {
-    let last = cells::of_guest(ledger, columns::FREE_COUNT, columns::HEADER) - 1;
-    settle(ledger, f, last, k, last);
+    let last = header::free(ledger) - 1;
+    settle(ledger, f, last, kind, last);
 }
 
 pub fn become_page(ledger: &mut [u32], f: u64, g: u64)
@@ -78,7 +93,7 @@ pub fn become_page(ledger: &mut [u32], f: u64, g: u64)
     requires g_bound { g < GUEST_ROWS }
     ensures { Taken f (page g) ledger.old ledger.new }
 {
-    occupy(ledger, f, kinds::PAGE);
+    occupy(ledger, f, Kind::Page);
     cells::store_of_frame(ledger, columns::GUEST, f, g);
 }
 
@@ -89,21 +104,22 @@ pub fn become_table(ledger: &mut [u32], f: u64, g: u64, h: u64, p: u64)
     requires g_bound { (g < GUEST_ROWS) × (h < 4) × (p < 2 ^ 27) }
     ensures { Taken f (table g h p) ledger.old ledger.new }
 {
-    occupy(ledger, f, kinds::TABLE);
+    occupy(ledger, f, Kind::Table);
     cells::store_of_frame(ledger, columns::GUEST, f, g);
     cells::store_of_frame(ledger, columns::HEIGHT, f, h);
     cells::store_of_frame(ledger, columns::RANGE, f, p);
 }
 
 // Frame f, which is not free, becomes so.
+#[tactic(auto, using(crate::proofs::Laws::Moves::not_one, crate::proofs::Laws::Moves::next_place, crate::proofs::Laws::Moves::freed))]
 pub fn put_back(ledger: &mut [u32], f: u64)
     requires ledger_sound { LedgerSound ledger.old }
     requires f_bound { f < size_of ledger.old }
     requires f_value { is_free (kind_of ledger.old f) ≡ false }
     ensures { Changed (with_kind f free) ledger.old ledger.new }
 {
-    let count = cells::of_guest(ledger, columns::FREE_COUNT, columns::HEADER);
-    settle(ledger, f, count, kinds::FREE, count + 1);
+    let count = header::free(ledger);
+    settle(ledger, f, count, Kind::Free, count + 1);
 }
 
 // Frame f, if it is a table or a page of guest g, drains for it.
@@ -112,13 +128,11 @@ pub fn drain(ledger: &mut [u32], f: u64, g: u64)
     requires f_bound { f < size_of ledger.old }
     ensures { Changed (with_kind_by f (drained g)) ledger.old ledger.new }
 {
-    let k = frame::kind_for(ledger, f, g);
-    if k != kinds::TABLE {
-        if k != kinds::PAGE {
-            return;
-        }
+    let kind = Kind::from(frame::kind_for(ledger, f, g));
+    match kind {
+        Kind::Table | Kind::Page => store_kind(ledger, f, kind.draining()),
+        _ => {}
     }
-    cells::store_of_frame(ledger, columns::KIND, f, kinds::draining(k));
 }
 
 // Frame f, if it drains for guest g, becomes free.
@@ -127,11 +141,9 @@ pub fn release(ledger: &mut [u32], f: u64, g: u64)
     requires f_bound { f < size_of ledger.old }
     ensures { Changed (with_kind_by f (released g)) ledger.old ledger.new }
 {
-    let k = frame::kind_for(ledger, f, g);
-    if k != kinds::DRAINING_TABLE {
-        if k != kinds::DRAINING_PAGE {
-            return;
-        }
+    let kind = Kind::from(frame::kind_for(ledger, f, g));
+    match kind {
+        Kind::DrainingTable | Kind::DrainingPage => put_back(ledger, f),
+        _ => {}
     }
-    put_back(ledger, f);
 }

@@ -20,41 +20,20 @@ pub const ADDRESS_END: u64 = 0x1000000000000;
 pub fn ram_fits(base: u64, frames: u64) -> bool
     ensures { result ≡ ram_fits base frames }
 {
-    if frames < FEWEST_FRAMES {
-        return false;
-    }
-    if MOST_FRAMES < frames {
-        return false;
-    }
-    if base % FRAME_BYTES != 0 {
-        return false;
-    }
-    // base + FRAME_BYTES * frames, which need not fit 64 bits, is above ADDRESS_END
-    if ADDRESS_END - FRAME_BYTES * frames < base {
-        return false;
-    }
-    true
+    // base + FRAME_BYTES * frames need not fit 64 bits
+    FEWEST_FRAMES <= frames
+        && frames <= MOST_FRAMES
+        && base % FRAME_BYTES == 0
+        && base <= ADDRESS_END - FRAME_BYTES * frames
 }
 
-fn wide(x: u8) -> u64
-    ensures { (result ≡ x) × (result < 256) }
-{
-    x as u64
-}
-
-// The word at the start of m. A flat sum with the places as constants: it compiles to one load.
+// The word at the start of m. The places are constants: it compiles to one load.
+#[tactic(auto, unfolding(crate::specs::Word::word_at))]
 fn first_word(m: &[u8]) -> u64
     requires { 8 ≤ length m.now }
     ensures { result ≡ word_at m.now 0 }
 {
-    wide(m[0])
-        + 0x100 * wide(m[1])
-        + 0x10000 * wide(m[2])
-        + 0x1000000 * wide(m[3])
-        + 0x100000000 * wide(m[4])
-        + 0x10000000000 * wide(m[5])
-        + 0x1000000000000 * wide(m[6])
-        + 0x100000000000000 * wide(m[7])
+    u64::from_le_bytes([m[0], m[1], m[2], m[3], m[4], m[5], m[6], m[7]])
 }
 
 pub fn word(m: &[u8], at: usize) -> u64
@@ -64,25 +43,16 @@ pub fn word(m: &[u8], at: usize) -> u64
     first_word(&m[at..])
 }
 
-fn low(x: u64) -> u8
-    ensures { result ≡ x % 256 }
-{
-    (x % 256) as u8
-}
-
-// Eight byte stores: they compile to one store.
+// Byte by byte: the loop compiles to one store.
+// Stays: `copy_from_slice` asks at run time whether its two parts overlap, and what LLVM makes of this function alone has then more
+// stores than one (`release_words` of build asks for one); of a write through `as_mut_array` no proof knows what the slice has after it.
 pub fn store_word(m: &mut [u8], at: usize, v: u64)
     requires { at + 8 ≤ length m.old }
     ensures { m.new ≡ stored_at m.old at v }
 {
-    m[at] = low(v);
-    m[at + 1] = low(v / 0x100);
-    m[at + 2] = low(v / 0x10000);
-    m[at + 3] = low(v / 0x1000000);
-    m[at + 4] = low(v / 0x100000000);
-    m[at + 5] = low(v / 0x10000000000);
-    m[at + 6] = low(v / 0x1000000000000);
-    m[at + 7] = low(v / 0x100000000000000);
+    for (i, byte) in v.to_le_bytes().iter().enumerate() {
+        m[at + i] = *byte;
+    }
 }
 
 // n bytes from `at` on become 0.
@@ -90,9 +60,5 @@ pub fn clear(m: &mut [u8], at: usize, n: usize)
     requires { at + n ≤ length m.old }
     ensures { m.new ≡ cleared_at m.old at n }
 {
-    let mut i = 0;
-    while i < n {
-        m[at + i] = 0;
-        i += 1;
-    }
+    m[at..at + n].fill(0);
 }

@@ -1,6 +1,2 @@
 // Document 03 as definitions, and what is proved of them: all of it is in specs/.
 #![tactic(auto)]
-
-pub fn same(x: usize) -> usize {
-    x
-}

@@ -1,6 +1,2 @@
 // The third demand, of every run of moves, a file for each sentence. All of it is in specs/.
 #![tactic(auto)]
-
-pub fn same(x: usize) -> usize {
-    x
-}

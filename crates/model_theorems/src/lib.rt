@@ -1,6 +1,2 @@
 // What is proved of the definitions of document 03, a file for each sentence. All of it is in specs/.
 #![tactic(auto)]
-
-pub fn same(x: usize) -> usize {
-    x
-}

@@ -1,4 +1,5 @@
--- What callers of the monitor cite: the operations' definitions, from the crates that have them; set-up.
+-- What callers of the monitor cite: the numbers of refusals and the operations' definitions, from the crates that have them; set-up.
+pub use Rattle.monitor_contract.specs.Refusals
 pub use Rattle.monitor_contract.specs.Answers
 pub use Rattle.monitor_contract.specs.Found
 pub use Rattle.monitor_create.specs.Create

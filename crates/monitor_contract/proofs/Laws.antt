@@ -1,4 +1,5 @@
 -- Laws, for proofs.
+pub mod Refusals
 pub mod Answers
 pub mod Found
 pub mod EachFrame

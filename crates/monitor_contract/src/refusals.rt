@@ -1,32 +1,50 @@
-// Document 03, section 2: the numbers of the refusals, by the names of include/pageledger.h. The definitions have the document's numbers.
+// Document 03, section 2: the refusals, by the names of include/pageledger.h, and their numbers.
+ghost use Rattle.std.specs.Prelude.{◌≡◌};
+ghost use Rattle.monitor_contract.specs.Refusals.{Tested, refusal_number, answer_number};
 
-// Nothing is refused.
+// What is answered where nothing is refused.
 pub const DONE: u64 = 0;
 
-pub const NO_GUEST_NUMBER: u64 = 1;
+// Why an operation is refused.
+#[derive(Clone, Copy, PartialEq, Eq)]
+pub enum Refusal {
+    NoGuestNumber = 1,
+    GuestExists = 2,
+    NoFreeFrames = 3,
+    NoFrame = 4,
+    NoGuest = 5,
+    NotFree = 6,
+    NoPageAddress = 7,
+    NoRights = 8,
+    NotItsPage = 9,
+    MappedAlready = 10,
+    NotMapped = 11,
+    WithItself = 12,
+    StillUsed = 13,
+    Dirty = 14,
+}
 
-pub const GUEST_EXISTS: u64 = 2;
+impl From<Refusal> for u64 {
+    ghost from_gives = { λ refusal number. number ≡ refusal_number refusal };
 
-pub const NO_FREE_FRAMES: u64 = 3;
+    fn from(refusal: Refusal) -> u64 {
+        refusal as u64
+    }
+}
 
-pub const NO_FRAME: u64 = 4;
+// The number of an answer, as C is told it.
+pub fn number(answer: Result<(), Refusal>) -> u64
+    ensures { result ≡ answer_number answer }
+{
+    match answer {
+        Ok(()) => DONE,
+        Err(refusal) => u64::from(refusal),
+    }
+}
 
-pub const NO_GUEST: u64 = 5;
-
-pub const NOT_FREE: u64 = 6;
-
-pub const NO_PAGE_ADDRESS: u64 = 7;
-
-pub const NO_RIGHTS: u64 = 8;
-
-pub const NOT_ITS_PAGE: u64 = 9;
-
-pub const MAPPED_ALREADY: u64 = 10;
-
-pub const NOT_MAPPED: u64 = 11;
-
-pub const WITH_ITSELF: u64 = 12;
-
-pub const STILL_USED: u64 = 13;
-
-pub const DIRTY: u64 = 14;
+// Goes on where a test holds, and refuses where it fails.
+pub fn demand(holds: bool, refusal: Refusal) -> Result<(), Refusal>
+    ensures { Tested holds refusal result }
+{
+    if holds { Ok(()) } else { Err(refusal) }
+}

@@ -1,33 +1,33 @@
 // Document 03, section 3: give and take.
+// Stays: RAM and the ledger, and Sound of both, in each contract: C lends two slices to pageledger_give (docs/DECISIONS.md, 60).
+// Stays: check, do, Ok(()): crate monitor says why.
+// Stays: the numbers of an operation beside them, as in its definition: each clause would take a struct of them apart again.
 #![tactic(auto)]
 
 ghost use Rattle.std.specs.Prelude.{◌≡◌};
 ghost use Rattle.model.specs.Operations.{refusal, give as give_of, take as take_of};
 ghost use Rattle.ledger.specs.Layout.{state_of};
 ghost use Rattle.ledger.specs.Sound.{Sound};
+ghost use Rattle.monitor_contract.specs.Refusals.{answer_number};
 ghost use Rattle.monitor_contract.specs.Answers.{Answers, Done};
 ghost use Rattle.monitor_give_take.specs.Give.{giving};
 ghost use Rattle.monitor_give_take.specs.Take.{taking};
 
-use ledger::{frame, guest, header, words};
-use monitor_contract::refusals;
+use ledger::{frame, guest, words};
+use monitor_contract::checks;
+use monitor_contract::refusals::{Refusal, demand};
 
-fn check_give(ram: &[u8], ledger: &[u32], f: u64, g: u64) -> u64
+#[tactic(auto, unfolding(model::specs::Operations::give, model::specs::Operations::check, ledger::specs::Layout::state_in))]
+fn check_give(ram: &[u8], ledger: &[u32], f: u64, g: u64) -> Result<(), Refusal>
     requires { Sound ram.now ledger.now }
-    ensures { result ≡ refusal (give_of (state_of ram.now ledger.now) f g) }
+    ensures { answer_number result ≡ refusal (give_of (state_of ram.now ledger.now) f g) }
 {
-    if !guest::exists(ledger, g) {
-        return refusals::NO_GUEST;
-    }
-    if header::size(ledger) <= f {
-        return refusals::NO_FRAME;
-    }
-    if !frame::is_free(ledger, f) {
-        return refusals::NOT_FREE;
-    }
-    refusals::DONE
+    checks::guest_exists(ledger, g)?;
+    checks::frame_exists(ledger, f)?;
+    demand(frame::is_free(ledger, f), Refusal::NotFree)
 }
 
+#[tactic(auto, using(crate::proofs::Laws::Give::give_low, crate::proofs::Laws::Give::give_free, crate::proofs::Laws::Give::give_guest))]
 fn do_give(ram: &mut [u8], ledger: &mut [u32], f: u64, g: u64)
     requires sound { Sound ram.old ledger.old }
     requires g_value { refusal (give_of (state_of ram.old ledger.old) f g) ≡ 0 }
@@ -39,41 +39,28 @@ fn do_give(ram: &mut [u8], ledger: &mut [u32], f: u64, g: u64)
 }
 
 // "give f to g: f becomes a page of g, shared with nobody, all zero"
-pub fn give(ram: &mut [u8], ledger: &mut [u32], f: u64, g: u64) -> u64
+pub fn give(ram: &mut [u8], ledger: &mut [u32], f: u64, g: u64) -> Result<(), Refusal>
     requires { Sound ram.old ledger.old }
-    ensures { Answers (giving f g) ram.old ledger.old result ram.new ledger.new }
+    ensures { Answers (giving f g) ram.old ledger.old (answer_number result) ram.new ledger.new }
 {
-    let refused = check_give(ram, ledger, f, g);
-    if refused != refusals::DONE {
-        return refused;
-    }
+    check_give(ram, ledger, f, g)?;
     do_give(ram, ledger, f, g);
-    refusals::DONE
+    Ok(())
 }
 
-fn check_take(ram: &[u8], ledger: &[u32], f: u64, g: u64) -> u64
+#[tactic(auto, unfolding(model::specs::Operations::take, model::specs::Operations::check, ledger::specs::Layout::state_in))]
+fn check_take(ram: &[u8], ledger: &[u32], f: u64, g: u64) -> Result<(), Refusal>
     requires { Sound ram.now ledger.now }
-    ensures { result ≡ refusal (take_of (state_of ram.now ledger.now) f g) }
+    ensures { answer_number result ≡ refusal (take_of (state_of ram.now ledger.now) f g) }
 {
-    if !guest::exists(ledger, g) {
-        return refusals::NO_GUEST;
-    }
-    if header::size(ledger) <= f {
-        return refusals::NO_FRAME;
-    }
-    if !frame::is_page_of(ledger, f, g) {
-        return refusals::NOT_ITS_PAGE;
-    }
+    checks::guest_exists(ledger, g)?;
+    checks::frame_exists(ledger, f)?;
+    checks::is_its_page(ledger, f, g)?;
     let used = frame::uses(ledger, f);
-    if used.places != 0 {
-        return refusals::STILL_USED;
-    }
-    if used.shares != 0 {
-        return refusals::STILL_USED;
-    }
-    refusals::DONE
+    demand(used.places == 0 && used.shares == 0, Refusal::StillUsed)
 }
 
+#[tactic(auto, using(crate::proofs::Laws::Take::take_owned, crate::proofs::Laws::Take::take_not_free))]
 fn do_take(ram: &[u8], ledger: &mut [u32], f: u64, g: u64)
     requires sound { Sound ram.now ledger.old }
     requires g_value { refusal (take_of (state_of ram.now ledger.old) f g) ≡ 0 }
@@ -81,20 +68,17 @@ fn do_take(ram: &[u8], ledger: &mut [u32], f: u64, g: u64)
 {
     if guest::dirty(ledger, g) {
         ledger_free::drain(ledger, f, g);
-        return;
+    } else {
+        ledger_free::put_back(ledger, f);
     }
-    ledger_free::put_back(ledger, f);
 }
 
 // "take f from g: if g is dirty, f drains for g; otherwise f is free"
-pub fn take(ram: &[u8], ledger: &mut [u32], f: u64, g: u64) -> u64
+pub fn take(ram: &[u8], ledger: &mut [u32], f: u64, g: u64) -> Result<(), Refusal>
     requires { Sound ram.now ledger.old }
-    ensures { Answers (taking f g) ram.now ledger.old result ram.now ledger.new }
+    ensures { Answers (taking f g) ram.now ledger.old (answer_number result) ram.now ledger.new }
 {
-    let refused = check_take(ram, ledger, f, g);
-    if refused != refusals::DONE {
-        return refused;
-    }
+    check_take(ram, ledger, f, g)?;
     do_take(ram, ledger, f, g);
-    refusals::DONE
+    Ok(())
 }

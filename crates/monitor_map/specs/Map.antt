@@ -1,13 +1,14 @@
 -- map as an operation of the state, its tests that look at no table, and the plan of its check: what the contracts cite.
-use Rattle.std.specs.Prelude.{◌≡◌, Bool, true, false, not, ◌&&◌, ◌||◌, List, ℕ, ◌≤◌, ◌/◌, ltb}
+use Rattle.std.specs.Prelude.{◌≡◌, Bool, true, false, not, ◌&&◌, ◌||◌, List, ℕ, Result, Ok, Err, ◌≤◌, ◌/◌, ltb}
 use Rattle.model.specs.State.{State, is_page, is_page_of, free_frames}
 use Rattle.model.specs.Translate.{mapped}
 use Rattle.model.specs.Operations.{Out, refuse, done, refusal, check, page_address, is_rights, shares, may_map, map}
 use Rattle.ledger.specs.Layout.{kind_of, shared_of}
 use Rattle.monitor_contract.specs.Answers.{Operation}
 use Rattle.monitor_tables.specs.Way.{Ended}
-use Rattle.monitor_map.specs.declared.MapPlan.{MapPlan}
-use Rattle.monitor_map.specs.declared.MapPlan.TheVariants.{Refused, Grow}
+use Rattle.monitor_tables.specs.declared.way.Place.{Place}
+use Rattle.monitor_contract.specs.declared.refusals.Refusal.{Refusal}
+use Rattle.monitor_contract.specs.Refusals.{refusal_number}
 
 abbrev pub mapping : (f g a r : ℕ) → Operation
 mapping f g a r s pick = map s f g a r pick
@@ -41,6 +42,6 @@ pub record Ready (s : State) (f g a r h t : ℕ) : Type 0 where
   pub unmapped : mapped s g (a / 4096) ≡ false
   pub enough : h ≤ free_frames s
 
-abbrev pub IsMapPlan : State → (f g a r : ℕ) (pick : ℕ → ℕ) → MapPlan → Type 0
-IsMapPlan s f g a r pick (Refused k) = map s f g a r pick ≡ refuse k
-IsMapPlan s f g a r pick (Grow h t) = Ready s f g a r h t
+abbrev pub IsMapPlan : State → (f g a r : ℕ) (pick : ℕ → ℕ) → Result Place Refusal → Type 0
+IsMapPlan s f g a r pick (Err refusal) = map s f g a r pick ≡ refuse (refusal_number refusal)
+IsMapPlan s f g a r pick (Ok place) = Ready s f g a r place.height place.table

@@ -12,7 +12,7 @@ abbrev pub unsharing : (g f h : ℕ) → Operation
 unsharing g f h s pick = unshare s g f h
 
 -- 13 "h has f mapped", in so many places; 14 "h is dirty"
-unfoldable pub held_back : (places : ℕ) (dirty : Bool) → ℕ
+abbrev pub held_back : (places : ℕ) (dirty : Bool) → ℕ
 held_back c d = cond (eqb c 0) (cond d 14 0) 13
 
 -- share: "h may map f for reading, and for writing too unless w = 0"

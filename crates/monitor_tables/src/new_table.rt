@@ -26,6 +26,7 @@ fn link(ram: &mut [u8], ledger: &[u32], t: u64, i: u64, u: u64)
 }
 
 // Table u, which the ledger has already, is filled with zeros and then linked in.
+#[tactic(auto, using(crate::proofs::Laws::NewTable::blank, crate::proofs::Laws::NewTable::then_linked))]
 fn clear_and_link(ram: &mut [u8], ledger: &[u32], t: u64, i: u64, u: u64)
     requires placed { Placed ledger.now t i u }
     requires ledger_sound { LedgerSound ledger.now }
@@ -39,6 +40,8 @@ fn clear_and_link(ram: &mut [u8], ledger: &[u32], t: u64, i: u64, u: u64)
 }
 
 // The table below t, of height h, on the way to v.
+// Stays: h and t are no Place, since the loop that calls it counts the heights and keeps the table alone.
+#[tactic(auto, using(crate::proofs::Laws::NewTable::grows_so))]
 pub fn make_table(ram: &mut [u8], ledger: &mut [u32], g: u64, v: u64, h: u64, t: u64) -> u64
     requires growing { Growing ram.old ledger.old g v h t }
     requires h_nonzero { 0 < h }
@@ -47,6 +50,6 @@ pub fn make_table(ram: &mut [u8], ledger: &mut [u32], g: u64, v: u64, h: u64, t:
     let p = way::upper(h, v);
     let u = ledger_free::next(ledger);
     ledger_free::become_table(ledger, u, g, h - 1, p);
-    clear_and_link(ram, ledger, t, p % 512, u);
+    clear_and_link(ram, ledger, t, p % way::ENTRIES, u);
     u
 }

@@ -1,5 +1,5 @@
 -- unmap as an operation of the state, and the plan that the check makes for the doing: what the contracts cite.
-use Rattle.std.specs.Prelude.{◌≡◌, true, ℕ, ◌/◌, ◌%◌}
+use Rattle.std.specs.Prelude.{◌≡◌, true, ℕ, Result, Ok, Err, ◌/◌, ◌%◌}
 use Rattle.std.proofs.Math.Option.{some}
 use Rattle.model.specs.State.{State}
 use Rattle.model.specs.Entry.{to_page}
@@ -8,8 +8,9 @@ use Rattle.model.specs.Operations.{refuse, page_address, unmap}
 use Rattle.model.specs.Translate.{At}
 use Rattle.model.specs.Invariant.{May}
 use Rattle.monitor_contract.specs.Answers.{Operation}
-use Rattle.monitor_unmap.specs.declared.UnmapPlan.{UnmapPlan}
-use Rattle.monitor_unmap.specs.declared.UnmapPlan.TheVariants.{Refused, Clear}
+use Rattle.monitor_contract.specs.declared.refusals.Refusal.{Refusal}
+use Rattle.monitor_contract.specs.Refusals.{refusal_number}
+use Rattle.monitor_unmap.specs.declared.Slot.{Slot}
 
 abbrev pub unmapping : (a g : ℕ) → Operation
 unmapping a g s pick = unmap s a g
@@ -24,6 +25,6 @@ pub record Slotted (s : State) (a g t f : ℕ) : Type 0 where
   pub leads : entry_at s t (a / 4096 % 512) ≡ to_page f rights
   pub may : May s g f rights
 
-abbrev pub IsUnmapPlan : State → (a g : ℕ) → UnmapPlan → Type 0
-IsUnmapPlan s a g (Refused k) = unmap s a g ≡ refuse k
-IsUnmapPlan s a g (Clear t f) = Slotted s a g t f
+abbrev pub IsUnmapPlan : State → (a g : ℕ) → Result Slot Refusal → Type 0
+IsUnmapPlan s a g (Err refusal) = unmap s a g ≡ refuse (refusal_number refusal)
+IsUnmapPlan s a g (Ok slot) = Slotted s a g slot.table slot.frame

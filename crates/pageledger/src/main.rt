@@ -1,10 +1,14 @@
 // Runs a script: standard input to standard output.
 #![tactic(auto)]
 
-ghost use Rattle.std.specs.Prelude.{◌≡◌, ◌+◌, ◌≤◌, length};
-ghost use Rattle.script.specs.LineAnswered.{room_for, Room};
+ghost use Rattle.std.specs.Prelude.{◌≡◌, ℕ, List, [], ◌∷◌, ◌++◌, take};
+ghost use Rattle.script_language.specs.Commands.{read_line};
+ghost use Rattle.script.specs.LineAnswered.{LineEffect};
 ghost use Rattle.pageledger.specs.Progress.{ProgressSound};
 
+mod buffer;
+
+use buffer::Buffer;
 use ledger::columns::{HEADER_WORDS, ROW_WORDS};
 use script_machine::Machine;
 use std::io::{Read, Write};
@@ -16,196 +20,137 @@ const RAM_BYTES: usize = FRAMES * memory::FRAME_BYTES as usize;
 
 const LEDGER_WORDS: usize = HEADER_WORDS as usize + ROW_WORDS as usize * FRAMES;
 
-// The output has room for what any line prints (room_for), and for as much that waits to be written.
+// The bytes that any line prints (room_for).
 const RAM_PER_ROOM: usize = 16;
 
 const REPLY_BYTES: usize = 256;
 
+const ROOM_BYTES: usize = RAM_BYTES / RAM_PER_ROOM + REPLY_BYTES;
+
+// The output has room for that, and for nearly as much that waits to be written.
 const OUT_BYTES: usize = 2 * (RAM_BYTES / RAM_PER_ROOM);
+
+const LINE_END: u8 = b'\n';
 
 // A line is gathered up to this length; the input is read in parts of up to that one.
 const LINE_BYTES: usize = 4096;
 
 const CHUNK_BYTES: usize = 65536;
 
-// The machine, how many bytes of a line are gathered, and how many of the output are not written yet.
+// The machine, the line that is gathered, and the output that is not written yet.
+// Stays: RAM and ledger are lent beside it. With them as fields the stack had no room to build it (tried): 4 MiB are copied into place.
 #[derive(Drop)]
 struct Progress {
     machine: Machine,
-    gathered: usize,
-    pending: usize,
+    line: Buffer<LINE_BYTES>,
+    output: Buffer<OUT_BYTES>,
 }
 
-// Writes the first n bytes. What can't be written is passed over: the script is run to its end all the same.
-fn write_out<W: Write>(output: &mut W, out: &[u8], n: usize)
-    requires { n ≤ length out.now }
-{
-    let _written = output.write_all(&out[..n]);
-}
-
-// Writes the output where there is no room for another answer, and says how much of it is left.
-fn flush_if_full<W: Write>(output: &mut W, out: &[u8], ram: &[u8], n: usize) -> usize
-    requires { (n ≤ length out.now) × (Room (length ram.now) (length out.now)) }
-    ensures { result + room_for (length ram.now) ≤ length out.now }
-{
-    let room = ram.len() / RAM_PER_ROOM + REPLY_BYTES;
-    if n <= out.len() - room {
-        return n;
-    }
-    write_out(output, out, n);
-    0
-}
-
-// Answers the line that was gathered.
-fn end_line<W: Write>(
-    output: &mut W,
-    s: Progress,
-    line: &[u8],
-    ram: &mut [u8],
-    ledger: &mut [u32],
-    out: &mut [u8],
-) -> Progress
-    requires { ProgressSound s (length line.now) ram.old ledger.old (length out.old) }
-    ensures { ProgressSound result (length line.now) ram.new ledger.new (length out.old) }
-{
-    let n = s.gathered;
-    let at = s.pending;
-    let done = script::answer_line(&line[..n], s.machine, ram, ledger, &mut out[at..]);
-    let machine = done.machine;
-    Progress {
-        machine,
-        gathered: 0,
-        pending: flush_if_full(output, out, ram, at + done.printed),
-    }
-}
-
-// One byte more of a line. A line of 4,096 bytes or more stays one of 4,096.
-fn gather_byte(s: Progress, line: &mut [u8], b: u8) -> Progress
-    requires { s.gathered ≤ length line.old }
-    ensures { (result.gathered ≤ length line.old) × (result.machine ≡ s.machine) × (result.pending ≡ s.pending) }
-{
-    let n = s.gathered;
-    if n < line.len() {
-        line[n] = b;
-        let machine = s.machine;
-        return Progress {
-            machine,
-            gathered: n + 1,
-            pending: s.pending,
-        };
-    }
-    s
-}
-
-// The next byte of the input: a line's end, or one more of the line.
-fn take_byte<W: Write>(
-    output: &mut W,
-    s: Progress,
-    b: u8,
-    line: &mut [u8],
-    ram: &mut [u8],
-    ledger: &mut [u32],
-    out: &mut [u8],
-) -> Progress
-    requires { ProgressSound s (length line.old) ram.old ledger.old (length out.old) }
-    ensures { ProgressSound result (length line.old) ram.new ledger.new (length out.old) }
-{
-    if b == b'\n' {
-        return end_line(output, s, line, ram, ledger, out);
-    }
-    gather_byte(s, line, b)
-}
-
-// The bytes that one read of the input gave.
-fn take_bytes<W: Write>(
-    output: &mut W,
-    s: Progress,
-    chunk: &[u8],
-    line: &mut [u8],
-    ram: &mut [u8],
-    ledger: &mut [u32],
-    out: &mut [u8],
-) -> Progress
-    requires { ProgressSound s (length line.old) ram.old ledger.old (length out.old) }
-    ensures { ProgressSound result (length line.old) ram.new ledger.new (length out.old) }
-{
-    let mut t = s;
-    let mut i = 0;
-    while i < chunk.len() {
-        t = take_byte(output, t, chunk[i], line, ram, ledger, out);
-        i += 1;
-    }
-    t
-}
-
-// Reads the input to its end, or until a read fails. A proved loop has to end, and nothing says that the input does: the turns are counted
-// down from a number that no run uses up.
-fn read_input<R: Read, W: Write>(
-    input: &mut R,
-    output: &mut W,
-    line: &mut [u8],
-    ram: &mut [u8],
-    ledger: &mut [u32],
-    out: &mut [u8],
-) -> Progress
-    requires { Room (length ram.old) (length out.old) }
-    ensures { ProgressSound result (length line.old) ram.new ledger.new (length out.old) }
-{
-    let mut s = Progress {
-        machine: script_machine::no_machine(),
-        gathered: 0,
-        pending: 0,
-    };
-    let mut turns = u64::MAX;
-    while 0 < turns {
-        let mut chunk = [0u8; CHUNK_BYTES];
-        let got = input.read(&mut chunk).unwrap_or(0);
-        if got == 0 {
-            return s;
+impl Progress {
+    // Answers the line that was gathered. The output is written where there is no room for another answer.
+    fn end_line<W: Write>(
+        &mut self,
+        stdout: &mut W,
+        ram: &mut [u8; RAM_BYTES],
+        ledger: &mut [u32; LEDGER_WORDS],
+    )
+        requires { ProgressSound self.old ram.old ledger.old }
+        ensures sound { ProgressSound self.new ram.new ledger.new }
+        ensures begun { self.new.line ≡ [] }
+        ensures answered { (text : List ℕ) × LineEffect (read_line self.old.line) self.old.machine ram.old ledger.old
+            ram.new ledger.new self.new.machine text }
+    {
+        let m = self.machine;
+        let line = self.line.bytes();
+        let out = &mut self.output;
+        let at = out.length;
+        let done = script::answer_line(line, m, ram, ledger, &mut out.bytes[at..]);
+        out.length = at + done.printed;
+        self.machine = done.machine;
+        self.line.clear();
+        if OUT_BYTES - ROOM_BYTES < self.output.length {
+            self.output.write_to(stdout);
         }
-        s = take_bytes(output, s, &chunk[..got], line, ram, ledger, out);
-        turns -= 1;
     }
-    s
+
+    // The next byte of the input: a line's end, or one more of the line. A line of 4,096 bytes or more stays one of 4,096.
+    fn take_byte<W: Write>(
+        &mut self,
+        stdout: &mut W,
+        b: u8,
+        ram: &mut [u8; RAM_BYTES],
+        ledger: &mut [u32; LEDGER_WORDS],
+    )
+        requires { ProgressSound self.old ram.old ledger.old }
+        ensures sound { ProgressSound self.new ram.new ledger.new }
+        ensures gathered { ¬ (b ≡ LINE_END) → (self.new.machine ≡ self.old.machine)
+            × (self.new.line ≡ take LINE_BYTES (self.old.line ++ b ∷ [])) × (self.new.output ≡ self.old.output) }
+    {
+        if b == LINE_END {
+            self.end_line(stdout, ram, ledger);
+        } else {
+            self.line.push(b);
+        }
+    }
+
+    // The bytes that one read of the input gave.
+    fn take_bytes<W: Write>(
+        &mut self,
+        stdout: &mut W,
+        chunk: &[u8],
+        ram: &mut [u8; RAM_BYTES],
+        ledger: &mut [u32; LEDGER_WORDS],
+    )
+        requires { ProgressSound self.old ram.old ledger.old }
+        ensures { ProgressSound self.new ram.new ledger.new }
+    {
+        for &b in chunk {
+            self.take_byte(stdout, b, ram, ledger);
+        }
+    }
+
+    // Reads the input to its end, or until a read fails. A proved loop has to end, and nothing says that the input does: the turns are
+    // counted, up to a number that no run comes to.
+    fn read_input<R: Read, W: Write>(
+        &mut self,
+        stdin: &mut R,
+        stdout: &mut W,
+        ram: &mut [u8; RAM_BYTES],
+        ledger: &mut [u32; LEDGER_WORDS],
+    )
+        requires { ProgressSound self.old ram.old ledger.old }
+        ensures { ProgressSound self.new ram.new ledger.new }
+    {
+        let mut chunk = [0u8; CHUNK_BYTES];
+        for _ in 0..u64::MAX {
+            let got = stdin.read(&mut chunk).unwrap_or(0);
+            if got == 0 {
+                return;
+            }
+            self.take_bytes(stdout, &chunk[..got], ram, ledger);
+        }
+    }
 }
 
-// The last line may have no line end; where there is none, nothing is printed for it.
-fn finish<W: Write>(
-    output: &mut W,
-    s: Progress,
-    line: &[u8],
-    ram: &mut [u8],
-    ledger: &mut [u32],
-    out: &mut [u8],
-)
-    requires { ProgressSound s (length line.now) ram.old ledger.old (length out.old) }
-{
-    let t = end_line(output, s, line, ram, ledger, out);
-    write_out(output, out, t.pending);
-}
-
-// Runs the script on lent memory.
+// Runs the script on lent memory. The last line may have no line end; where there is none, nothing is printed for it.
 fn run<R: Read, W: Write>(
-    input: &mut R,
-    output: &mut W,
+    stdin: &mut R,
+    stdout: &mut W,
     ram: &mut [u8; RAM_BYTES],
     ledger: &mut [u32; LEDGER_WORDS],
-    out: &mut [u8; OUT_BYTES],
 ) {
-    let mut line = [0u8; LINE_BYTES];
-    let s = read_input(input, output, &mut line, ram, ledger, out);
-    finish(output, s, &line, ram, ledger, out);
+    let mut progress = Progress {
+        machine: script_machine::no_machine(),
+        line: Buffer::new(),
+        output: Buffer::new(),
+    };
+    progress.read_input(stdin, stdout, ram, ledger);
+    progress.end_line(stdout, ram, ledger);
+    progress.output.write_to(stdout);
 }
 
 fn main(rt: HostRuntime) {
     let mut ram = [0u8; RAM_BYTES];
     let mut ledger = [0u32; LEDGER_WORDS];
-    let mut out = [0u8; OUT_BYTES];
-    run(
-        &mut rt.stdin(),
-        &mut rt.stdout(),
-        &mut ram,
-        &mut ledger,
-        &mut out,
-    );
+    run(&mut rt.stdin(), &mut rt.stdout(), &mut ram, &mut ledger);
 }

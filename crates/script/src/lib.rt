@@ -1,5 +1,6 @@
 // The script language: a line is read, the machine answers its command, and the answer is printed.
 // It reads and writes nothing outside of the slices that it is lent.
+// Stays: RAM, ledger and output beside the machine: slices are parameters (docs/DECISIONS.md, 60).
 #![tactic(auto)]
 
 ghost use Rattle.std.specs.Prelude.{◌≤◌, length};
@@ -10,8 +11,8 @@ ghost use Rattle.script.specs.LineAnswered.{Room, LineAnswered};
 mod print;
 
 use print::{put_mistake, put_reply};
-use script_language::{Command, Line, read_line};
-use script_machine::{Machine, execute};
+use script_language::{Command, read_line};
+use script_machine::{Machine, Outcome, execute};
 
 // The machine after a line, and how many bytes were printed.
 #[derive(Drop)]
@@ -29,12 +30,10 @@ fn answer_command(
     out: &mut [u8],
 ) -> Answered
     requires { (MachineSound m ram.old ledger.old) × (Room (length ram.old) (length out.old)) }
-    ensures { LineAnswered (Line.Asks c) m ram.old ledger.old
+    ensures { LineAnswered (Ok (Some c)) m ram.old ledger.old
         ram.new ledger.new out.new result }
 {
-    let o = execute(c, m, ram, ledger);
-    let machine = o.machine;
-    let reply = o.reply;
+    let Outcome { machine, reply } = execute(c, m, ram, ledger);
     let printed = put_reply(out, reply, machine, ram, ledger);
     Answered { machine, printed }
 }
@@ -52,12 +51,12 @@ pub fn answer_line(
         ram.new ledger.new out.new result }
 {
     match read_line(line) {
-        Line::Empty => Answered {
+        Ok(None) => Answered {
             machine: m,
             printed: 0,
         },
-        Line::Asks(c) => answer_command(c, m, ram, ledger, out),
-        Line::Unreadable(why) => Answered {
+        Ok(Some(c)) => answer_command(c, m, ram, ledger, out),
+        Err(why) => Answered {
             machine: m,
             printed: put_mistake(out, why),
         },

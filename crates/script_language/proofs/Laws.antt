@@ -1,4 +1,3 @@
 -- Laws of the definitions, for the proofs of the code.
 pub mod Names
-pub mod Forms
 pub mod Parsing

@@ -1,21 +1,19 @@
 -- The table of the script language (docs/SCRIPT.md): each command's word, its arguments, and the command that they make.
-use Rattle.std.specs.Prelude.{ℕ, zero, suc, cond, List, [], ◌∷◌, ◌++◌, get_or, take, replicate}
+use Rattle.std.specs.Prelude.{ℕ, suc, cond, List, [], ◌∷◌, ◌++◌, get_or, take, replicate, Option, Some, None}
 use Prim.Native.String.{String}
 use Rattle.script_language.specs.declared.names.CommandName.{CommandName}
 use Rattle.script_language.specs.declared.names.CommandName.TheVariants.{Setup, Word, Peek, Stage2, Walk, Translation, OneFrame, OneGuest, WholeLedger, Operating}
 use Rattle.script_language.specs.declared.names.OperationName.{OperationName}
 use Rattle.script_language.specs.declared.names.OperationName.TheVariants.{Creating, Giving, Mapping, Unmapping, Sharing, Unsharing, Taking, Destroying, Invalidating}
-use Rattle.script_language.specs.declared.names.FirstWord.{FirstWord}
-use Rattle.script_language.specs.declared.names.FirstWord.TheVariants.{Known, Unknown}
-use Rattle.script_language.specs.declared.arguments.Form.{Form}
-use Rattle.script_language.specs.declared.arguments.Form.TheVariants.{Number, Access, Level}
+use Rattle.script_language.specs.declared.names.Form.{Form}
+use Rattle.script_language.specs.declared.names.Form.TheVariants.{Number, Access, Level}
 use Rattle.script_language.specs.declared.Operation.{Operation}
 use Rattle.script_language.specs.declared.Operation.TheVariants.{Create, Give, Map, Unmap, Share, Unshare, Take, Destroy, Invalidated}
 use Rattle.script_language.specs.declared.Command.{Command}
 use Rattle.script_language.specs.declared.Command.TheVariants.{SetUp, StoreWord, Operate, Ask}
 use Rattle.script_language.specs.declared.Question.TheVariants.{PeekWord, WalkStage2, WalkBoth, Translate, Frame, Guest, Ledger}
 use Rattle.script_text.specs.Text.{ascii}
-use Rattle.script_text.specs.Words.{after_blanks, leading_word, after_word, same_text}
+use Rattle.script_text.specs.Words.{same_text}
 
 -- a command's word, and what it asks for
 pub record Entry : Type 0 where
@@ -54,23 +52,17 @@ command_table =
     []
 
 -- what the word w asks for by a table, and `other` where it is none of its words
-unfoldable pub lookup : List ℕ → List Entry → FirstWord → FirstWord
+unfoldable pub lookup : List ℕ → List Entry → Option CommandName → Option CommandName
 lookup w [] other = other
-lookup w (e ∷ t) other = cond (same_text w e.word) (Known e.name) (lookup w t other)
+lookup w (e ∷ t) other = cond (same_text w e.word) (Some e.name) (lookup w t other)
 
 -- the operation that w names
-unfoldable pub operation_word : List ℕ → FirstWord
-operation_word w = lookup w operation_table Unknown
+unfoldable pub operation_word : List ℕ → Option CommandName
+operation_word w = lookup w operation_table None
 
 -- the command that w names
-unfoldable pub first_word : List ℕ → FirstWord
+unfoldable pub first_word : List ℕ → Option CommandName
 first_word w = lookup w command_table (operation_word w)
-
--- the same as the code finds it: the first n words of a text, and the place of w among them
--- the command that w names
-unfoldable pub first_words : ℕ → List ℕ → List (List ℕ)
-first_words zero s = []
-first_words (suc n) s = leading_word (after_blanks s) ∷ first_words n (after_word (after_blanks s))
 
 -- the place of w in a list of words; where it is none of them, their number
 unfoldable pub word_index : List ℕ → List (List ℕ) → ℕ

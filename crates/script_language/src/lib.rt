@@ -3,14 +3,16 @@
 #![tactic(auto)]
 
 ghost use Rattle.std.specs.Prelude.{◌≡◌};
-ghost use Rattle.script_language.specs.Commands.{read_command, read_words, read_line};
+ghost use Rattle.script_language.specs.Commands.{reason_of, read_command, read_words, read_line};
+ghost use Rattle.script_language.specs.Names.{first_word as first_word_of};
 ghost use Rattle.script_text.specs.Words.{after_blanks};
 
 mod arguments;
 mod names;
 
 use arguments::read_arguments;
-use names::{FirstWord, first_word};
+use names::first_word;
+use script_text::numbers::NumberError;
 use script_text::words::{is_text, text_end, word_end, word_start};
 
 // A line of so many bytes, its line end not counted, is too long.
@@ -20,6 +22,7 @@ const LINE_LIMIT: usize = 4096;
 const MOST_ARGUMENTS: usize = 5;
 
 // An operation of the monitor (document 03, section 3), as a script names it.
+// Stays: rights and writing are numbers, which a script may write as it likes: the monitor refuses those that are none.
 #[derive(Drop)]
 pub enum Operation {
     Create {
@@ -63,6 +66,7 @@ pub enum Operation {
 }
 
 // What a command asks that changes nothing.
+// Stays: access and el are numbers; arguments.rt says why.
 #[derive(Drop)]
 pub enum Question {
     PeekWord {
@@ -111,7 +115,7 @@ pub enum Command {
 }
 
 // Why a line can't be read.
-#[derive(Drop)]
+#[derive(Clone, Copy, Debug, PartialEq, Eq)]
 pub enum Reason {
     UnknownCommand,
     TooFewWords,
@@ -124,47 +128,52 @@ pub enum Reason {
     LineTooLong,
 }
 
-// What a line is: blanks and a comment, a command, or none.
-#[derive(Drop)]
-pub enum Line {
-    Empty,
-    Asks(Command),
-    Unreadable(Reason),
-}
+impl From<NumberError> for Reason {
+    ghost from_gives = { λ e r. r ≡ reason_of e };
 
-// The command of a first word, with the words after it.
-fn read_command(w: FirstWord, s: &[u8]) -> Line
-    ensures { result ≡ read_command w s.now }
-{
-    match w {
-        FirstWord::Known(v) => read_arguments(v, s),
-        FirstWord::Unknown => Line::Unreadable(Reason::UnknownCommand),
+    fn from(e: NumberError) -> Reason {
+        match e {
+            NumberError::TooLarge => Reason::NumberTooLarge,
+            NumberError::NoNumber => Reason::NumberExpected,
+        }
     }
 }
 
+// The command of a first word, with the words after it.
+#[tactic(auto, unfolding(crate::specs::Commands::read_command))]
+fn read_command(word: &[u8], s: &[u8]) -> Result<Command, Reason>
+    ensures { result ≡ read_command (first_word_of word.now) s.now }
+{
+    let (name, forms) = first_word(word).ok_or(Reason::UnknownCommand)?;
+    read_arguments(name, forms, s)
+}
+
 // The words of a line's text.
-fn read_words(s: &[u8]) -> Line
+#[tactic(auto, using(crate::proofs::Laws::Parsing::no_word))]
+fn read_words(s: &[u8]) -> Result<Option<Command>, Reason>
     ensures { result ≡ read_words (after_blanks s.now) }
 {
     let from = word_start(s, 0);
     if from == s.len() {
-        return Line::Empty;
+        return Ok(None);
     }
     let to = word_end(s, from);
-    read_command(first_word(&s[from..to]), &s[to..])
+    let command = read_command(&s[from..to], &s[to..])?;
+    Ok(Some(command))
 }
 
-// Reads a line, given without its line end.
-pub fn read_line(line: &[u8]) -> Line
+// Reads a line, given without its line end: a command, or none where it has no words.
+#[tactic(auto, unfolding(crate::specs::Commands::read_line))]
+pub fn read_line(line: &[u8]) -> Result<Option<Command>, Reason>
     ensures { result ≡ read_line line.now }
 {
     if LINE_LIMIT <= line.len() {
-        return Line::Unreadable(Reason::LineTooLong);
+        return Err(Reason::LineTooLong);
     }
-    let end = text_end(line);
-    let s = &line[..end];
-    if is_text(s) {
-        return read_words(s);
+    let text = &line[..text_end(line)];
+    if is_text(text) {
+        read_words(text)
+    } else {
+        Err(Reason::NotText)
     }
-    Line::Unreadable(Reason::NotText)
 }

@@ -9,13 +9,16 @@ use script_language::Command;
 use walk::Answer;
 
 mod operations;
+mod parts;
 mod questions;
 mod start;
 mod words;
 
 // The machine that `setup` made: RAM is the first `frames` frames of the lent slice, from physical address `base`. No frames: none yet.
 // Ready: the ledger is what `setup` and the operations have made, and no `word` has hit a table since.
-#[derive(Clone, Copy)]
+// Stays: `frames: 0` and no Option<Machine>. RAM with no frames has no word and no walk, so each command answers it by its own rule.
+// Stays: MachineSound in clauses, and RAM and ledger as parameters: slices are parameters (docs/DECISIONS.md, 60).
+#[derive(Clone, Copy, Default)]
 pub struct Machine {
     pub base: u64,
     pub frames: u64,
@@ -47,11 +50,7 @@ pub struct Outcome {
 pub fn no_machine() -> Machine
     ensures { (result.frames ≡ 0) × (result.base ≡ 0) × (result.ready ≡ false) }
 {
-    Machine {
-        base: 0,
-        frames: 0,
-        ready: false,
-    }
+    Machine::default()
 }
 
 // Carries out a command.
@@ -64,12 +63,12 @@ pub fn execute(c: Command, m: Machine, ram: &mut [u8], ledger: &mut [u32]) -> Ou
             frames,
             base,
             monitor,
-        } => start::set_up(m, ram, ledger, frames, base, monitor),
-        Command::StoreWord { address, value } => words::store_word(m, ram, ledger, address, value),
-        Command::Operate(o) => operations::operate(o, m, ram, ledger),
+        } => m.set_up(ram, ledger, frames, base, monitor),
+        Command::StoreWord { address, value } => m.store_word(ram, ledger, address, value),
+        Command::Operate(o) => m.operate(o, ram, ledger),
         Command::Ask(q) => Outcome {
             machine: m,
-            reply: questions::reply_to(q, m, ram, ledger),
+            reply: m.reply_to(q, ram, ledger),
         },
     }
 }

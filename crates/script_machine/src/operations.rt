@@ -2,18 +2,19 @@
 ghost use Rattle.std.specs.Prelude.{◌≡◌};
 ghost use Rattle.ledger.specs.Sound.{Sound};
 ghost use Rattle.monitor.specs.Answers.{Answers};
+ghost use Rattle.monitor.specs.Refusals.{answer_number};
 ghost use Rattle.script_language.specs.declared.Command.TheVariants.{Operate};
 ghost use Rattle.script_machine.specs.Operations.{operation};
 ghost use Rattle.script_machine.specs.Machine.{MachineSound, Executed};
 
 use super::{Machine, Outcome, Reply};
-use ledger::columns::{HEADER_WORDS, ROW_WORDS};
+use monitor::refusals::{self, Refusal};
 use script_language::Operation;
 
 // Calls the monitor.
-fn perform(o: Operation, ram: &mut [u8], ledger: &mut [u32]) -> u64
+fn perform(o: Operation, ram: &mut [u8], ledger: &mut [u32]) -> Result<(), Refusal>
     requires { Sound ram.old ledger.old }
-    ensures { Answers (operation o) ram.old ledger.old result ram.new ledger.new }
+    ensures { Answers (operation o) ram.old ledger.old (answer_number result) ram.new ledger.new }
 {
     match o {
         Operation::Create { guest } => monitor::create(ram, ledger, guest),
@@ -40,21 +41,24 @@ fn perform(o: Operation, ram: &mut [u8], ledger: &mut [u32]) -> u64
     }
 }
 
-pub fn operate(o: Operation, m: Machine, ram: &mut [u8], ledger: &mut [u32]) -> Outcome
-    requires { MachineSound m ram.old ledger.old }
-    ensures { Executed (Operate o) m ram.old ledger.old ram.new ledger.new result }
-{
-    if m.ready {
-        let n = (memory::FRAME_BYTES * m.frames) as usize;
-        let w = (HEADER_WORDS + ROW_WORDS * m.frames) as usize;
-        let k = perform(o, &mut ram[..n], &mut ledger[..w]);
-        return Outcome {
-            machine: m,
-            reply: Reply::Number(k),
-        };
-    }
-    Outcome {
-        machine: m,
-        reply: Reply::SetupNeeded,
+impl Machine {
+    // Stays: an `if` of its own and no call of if_ready. Of what a closure leaves in both slices a clause would say more than it saves.
+    pub(crate) fn operate(self, o: Operation, ram: &mut [u8], ledger: &mut [u32]) -> Outcome
+        requires { MachineSound self ram.old ledger.old }
+        ensures { Executed (Operate o) self ram.old ledger.old ram.new ledger.new result }
+    {
+        if self.ready {
+            let n = self.ram_bytes();
+            let w = self.ledger_words();
+            let answer = perform(o, &mut ram[..n], &mut ledger[..w]);
+            return Outcome {
+                machine: self,
+                reply: Reply::Number(refusals::number(answer)),
+            };
+        }
+        Outcome {
+            machine: self,
+            reply: Reply::SetupNeeded,
+        }
     }
 }

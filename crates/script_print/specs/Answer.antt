@@ -1,10 +1,9 @@
 -- docs/SCRIPT.md: what a walk prints.
-use Rattle.std.specs.Prelude.{ℕ, ◌≤◌, ◌≡◌, List, ◌++◌, length, take}
+use Rattle.std.specs.Prelude.{ℕ, List, ◌++◌}
 use Rattle.walk_descriptor.specs.declared.FaultKind.{FaultKind}
 use Rattle.walk_descriptor.specs.declared.FaultKind.TheVariants.{WalkAbort, Translation, NotModelled, AccessFlag, Permission}
 use Rattle.walk.specs.declared.Answer.{Answer}
 use Rattle.walk.specs.declared.Answer.TheVariants.{Found, Fault, During, Refused}
-use Rattle.script_print.specs.declared.answers.Text.{Text}
 use Rattle.script_text.specs.Text.{ascii}
 use Rattle.script_text.specs.Digits.{decimal_of, hex_of}
 
@@ -23,12 +22,6 @@ fetched_bytes = 29
 
 abbrev pub answer_bytes : ℕ
 answer_bytes = 145
-
--- the first bytes of t are `text`
-pub record HoldsText (t : Text) (text : List ℕ) : Type 0 where
-  pub short : t.length ≤ name_bytes
-  pub there : t.length ≤ length t.bytes
-  pub same : take t.length t.bytes ≡ text
 
 -- document 01, section 4: the faults
 unfoldable pub kind_text : FaultKind → List ℕ

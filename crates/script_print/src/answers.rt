@@ -1,77 +1,39 @@
 // A walk's answer as text.
-ghost use Rattle.std.specs.Prelude.{◌+◌, ◌≤◌, length, take};
+ghost use Rattle.std.specs.Prelude.{◌≡◌, ◌+◌, ◌≤◌, length};
 ghost use Rattle.script_text.specs.Wrote.{Wrote};
-ghost use Rattle.script_print.specs.Answer.{name_bytes, fault_bytes, during_bytes, fetched_bytes, answer_bytes, HoldsText, kind_text, fault_text, fetched_text, during_text, answer_text};
+ghost use Rattle.script_print.specs.Answer.{name_bytes, fault_bytes, during_bytes, fetched_bytes, answer_bytes, kind_text, fault_text, fetched_text, during_text, answer_text};
 
 use script_text::digits::{put, put_field, put_hex};
 use walk::{Answer, FaultKind};
-
-// The array of a short text, filled up with spaces.
-const NAME_BYTES: usize = 20;
-
-// A short text: the first `length` bytes.
-#[derive(Drop)]
-pub struct Text {
-    pub bytes: [u8; NAME_BYTES],
-    pub length: usize,
-}
-
-const WALK_ABORT: Text = Text {
-    bytes: *b"WALK_ABORT          ",
-    length: 10,
-};
-
-const TRANSLATION: Text = Text {
-    bytes: *b"TRANSLATION         ",
-    length: 11,
-};
-
-const NOT_MODELLED: Text = Text {
-    bytes: *b"NOT_MODELLED        ",
-    length: 12,
-};
-
-const ACCESS_FLAG: Text = Text {
-    bytes: *b"ACCESS_FLAG         ",
-    length: 11,
-};
-
-const PERMISSION: Text = Text {
-    bytes: *b"PERMISSION          ",
-    length: 10,
-};
+use walk_descriptor::Stage;
 
 // A fault by its name.
-fn kind_text(k: FaultKind) -> Text
-    ensures { HoldsText result (kind_text k) }
+#[tactic(auto, unfolding(crate::specs::Answer::kind_text))]
+fn kind_text(k: FaultKind) -> &'static [u8]
+    ensures text { result.now ≡ kind_text k }
+    ensures short { length result.now ≤ name_bytes }
 {
     match k {
-        FaultKind::WalkAbort => WALK_ABORT,
-        FaultKind::Translation => TRANSLATION,
-        FaultKind::NotModelled => NOT_MODELLED,
-        FaultKind::AccessFlag => ACCESS_FLAG,
-        FaultKind::Permission => PERMISSION,
+        FaultKind::WalkAbort => b"WALK_ABORT",
+        FaultKind::Translation => b"TRANSLATION",
+        FaultKind::NotModelled => b"NOT_MODELLED",
+        FaultKind::AccessFlag => b"ACCESS_FLAG",
+        FaultKind::Permission => b"PERMISSION",
     }
 }
 
-pub fn put_text(out: &mut [u8], at: usize, t: Text) -> usize
-    requires { (at + name_bytes ≤ length out.old) × (t.length ≤ name_bytes) × (t.length ≤ length t.bytes) }
-    ensures { Wrote name_bytes out.old at out.new result (take t.length t.bytes) }
-{
-    let bytes = t.bytes;
-    let n = t.length;
-    put(out, at, &bytes[..n])
-}
-
+#[tactic(auto, unfolding(crate::specs::Answer::fault_text))]
+// Stays: the stage is a number, as `walk::Answer` has it.
 fn put_fault(out: &mut [u8], at: usize, k: FaultKind, stage: u64, level: u64) -> usize
     requires { at + fault_bytes ≤ length out.old }
     ensures { Wrote fault_bytes out.old at out.new result (fault_text k stage level) }
 {
-    let a = put_text(out, at, kind_text(k));
+    let a = put(out, at, kind_text(k));
     let b = put_field(out, a, b" stage ", stage);
     put_field(out, b, b" level ", level)
 }
 
+#[tactic(auto, unfolding(crate::specs::Answer::fetched_text))]
 fn put_fetched(out: &mut [u8], at: usize, fetched: u64) -> usize
     requires { at + fetched_bytes ≤ length out.old }
     ensures { Wrote fetched_bytes out.old at out.new result (fetched_text fetched) }
@@ -84,10 +46,11 @@ fn put_during(out: &mut [u8], at: usize, k: FaultKind, level: u64, of: u64) -> u
     requires { at + during_bytes ≤ length out.old }
     ensures { Wrote during_bytes out.old at out.new result (during_text k level of) }
 {
-    let next = put_fault(out, at, k, 2, level);
+    let next = put_fault(out, at, k, Stage::Two as u64, level);
     put_field(out, next, b" during stage 1 level ", of)
 }
 
+#[tactic(auto, unfolding(crate::specs::Answer::answer_text))]
 pub fn put_answer(out: &mut [u8], at: usize, a: Answer) -> usize
     requires { at + answer_bytes ≤ length out.old }
     ensures { Wrote answer_bytes out.old at out.new result (answer_text a) }

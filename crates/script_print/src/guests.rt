@@ -7,6 +7,7 @@ use monitor_query::GuestKind;
 use script_text::digits::{put, put_hex};
 
 // Nothing where a guest is not dirty.
+#[tactic(auto, unfolding(crate::specs::Guest::dirty_text))]
 fn put_dirty(out: &mut [u8], at: usize, dirty: bool) -> usize
     requires { at + dirty_bytes ≤ length out.old }
     ensures { Wrote dirty_bytes out.old at out.new result (dirty_text dirty) }
@@ -18,6 +19,8 @@ fn put_dirty(out: &mut [u8], at: usize, dirty: bool) -> usize
 }
 
 // What `guest` prints.
+// Stays: the text "1" and no Refusal: `guest_text` says so, and the text is all that is put.
+#[tactic(auto, unfolding(crate::specs::Guest::guest_text))]
 pub fn put_guest(out: &mut [u8], at: usize, g: GuestKind) -> usize
     requires { at + guest_bytes ≤ length out.old }
     ensures { Wrote guest_bytes out.old at out.new result (guest_text g) }

@@ -9,6 +9,7 @@ pub mod Answers
 -- How the numbers add up, and the loops of the code.
 pub mod Counts
 pub mod Walk
+pub mod Arguments
 -- For crates above: that arguments fit, and where both stages found something.
 pub mod Fits
 pub mod Found

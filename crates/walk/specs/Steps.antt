@@ -1,17 +1,17 @@
 -- What the code's functions hand to each other, in the words of the definitions. No sentence of document 01 is decided here.
-use Rattle.std.specs.Prelude.{ℕ, ◌+◌, ◌-◌, ◌<◌, ◌≤◌, ◌≡◌, Bool, List, length}
+use Rattle.std.specs.Prelude.{ℕ, ◌+◌, ◌-◌, ◌<◌, ◌≤◌, ◌≡◌, Bool, List, length, Result, Ok, Err}
+use Rattle.std.specs.declared.ops.ControlFlow.{ControlFlow}
+use Rattle.std.specs.declared.ops.ControlFlow.TheVariants.{Continue, Break}
 use Rattle.std.proofs.Math.Option.{Option, none, some}
 use Rattle.memory.specs.Ram.{address_end}
 use Rattle.walk.specs.declared.Answer.{Answer}
-use Rattle.walk.specs.declared.Answer.TheVariants.{Found, Fault}
 use Rattle.walk_descriptor.specs.declared.FaultKind.TheVariants.{WalkAbort}
 use Rattle.walk_descriptor.specs.Descriptor.{last_level}
 use Rattle.walk_level.specs.declared.Step.{Step}
 use Rattle.walk_level.specs.declared.Step.TheVariants.{Absent}
-use Rattle.walk.specs.declared.Ended.{Ended}
-use Rattle.walk.specs.declared.Ended.TheVariants.{Reached, Failed}
-use Rattle.walk.specs.declared.LevelOutcome.{LevelOutcome}
-use Rattle.walk.specs.declared.LevelOutcome.TheVariants.{NextTable, Answered}
+use Rattle.walk.specs.declared.stage_1.NextTable.{NextTable}
+use Rattle.walk.specs.declared.stage_2.Reached.{Reached}
+use Rattle.walk.specs.declared.stage_2.Failed.{Failed}
 use Rattle.walk.specs.Memory.{read_at}
 use Rattle.walk_level.specs.Stage.{meaning, walk_from}
 use Rattle.walk_level.specs.Step.{step_of}
@@ -39,9 +39,12 @@ step_at ram base rights ia level a = step_read rights ia level (read_at ram base
 unfoldable pub with_count : {R A : Type 0} → (say : R → ℕ → A) (before : ℕ) → Walked R → A
 with_count say before w = say w.result (before + length w.fetched)
 
+abbrev pub Ended : Type 0
+Ended = Result Reached Failed
+
 abbrev pub as_ended : Stage2Result → (fetched : ℕ) → Ended
-as_ended (reached a) n = Reached a n
-as_ended (failed kind level) n = Failed kind level n
+as_ended (reached a) n = Ok (record { address = a; fetched = n })
+as_ended (failed kind level) n = Err (record { kind = kind; level = level; fetched = n })
 
 abbrev pub ended : (before : ℕ) → Walked Stage2Result → Ended
 ended = with_count as_ended
@@ -63,18 +66,16 @@ from_descriptor_1 ram base root2 access el va level a =
     fetched_at a (read_at ram base a) (ends (fault WalkAbort 1 level))
     (λ d. meaning (rules_1 ram base root2 access el) va level d (from_table_1 ram base root2 access el va (last_level - (level + 1))))
 
+abbrev pub LevelOutcome : Type 0
+LevelOutcome = ControlFlow Answer NextTable
+
 -- A level of stage 1 came to the answer, `whole`, or the walk goes on from the next table, and `most` descriptors at most were fetched.
 module _ (ram : List ℕ) (base root2 access el va level most : ℕ) (whole : Answer) where
   abbrev pub ComesTo : LevelOutcome → Type 0
-  ComesTo (Answered x) = x ≡ whole
-  ComesTo (NextTable t k) =
-      (level < last_level) × (t < address_end) × (k ≤ most)
-      × (whole ≡ answered k (from_table_1 ram base root2 access el va (last_level - (level + 1)) t))
+  ComesTo (Break x) = x ≡ whole
+  ComesTo (Continue next) =
+      (level < last_level) × (next.table < address_end) × (next.fetched ≤ most)
+      × (whole ≡ answered (next.fetched) (from_table_1 ram base root2 access el va (last_level - (level + 1)) (next.table)))
 
   pub record LevelComesTo (x : LevelOutcome) : Type 0 where
     pub so : ComesTo x
-
--- the answer of a walk whose last part is stage 2, which ended so
-abbrev pub Finished : Ended → Answer → Type 0
-Finished (Reached a n) x = x ≡ Found a n
-Finished (Failed kind level n) x = x ≡ Fault kind 2 level n

@@ -1,11 +1,16 @@
 // Document 01: what an address translates to, whatever the memory image holds.
 // Nothing is asked of the caller: numbers that do not fit are refused.
+// Stays: level ≤ last_level in each contract inside, as in walk_level.
 #![tactic(auto)]
 
 ghost use Rattle.std.specs.Prelude.{◌≡◌, ◌&&◌, ltb};
-ghost use Rattle.walk_descriptor.specs.Descriptor.{kinds_of_access, exception_levels};
+ghost use Rattle.memory.specs.Ram.{address_end};
 ghost use Rattle.walk.specs.Memory.{image_fits};
-ghost use Rattle.walk.specs.Both.{root_fits, stage2_fits, both_fits, answer_2, answer};
+ghost use Rattle.walk.specs.Both.{root_fits, answer_2, answer};
+
+use stage_1::Sought;
+use stage_2::Tables;
+use walk_descriptor::{Access, ExceptionLevel};
 
 mod stage_1;
 mod stage_2;
@@ -13,7 +18,9 @@ mod stage_2;
 pub use walk_descriptor::FaultKind;
 
 // `fetched` is the number of descriptors that were read.
-#[derive(Drop)]
+// Stays: the stage is a number, and Refused no Err, since the definitions (`as_answer`, `answer` of specs/Both) and the theorems on this
+// type say them so.
+#[derive(Clone, Copy)]
 pub enum Answer {
     Found {
         address: u64,
@@ -35,97 +42,45 @@ pub enum Answer {
     Refused,
 }
 
-// How stage 2 ended.
-#[derive(Drop)]
-enum Ended {
-    Reached {
-        address: u64,
-        fetched: u64,
-    },
-    Failed {
-        kind: FaultKind,
-        level: u64,
-        fetched: u64,
-    },
-}
-
-// What a level of stage 1 came to.
-#[derive(Drop)]
-enum LevelOutcome {
-    NextTable { table: u64, fetched: u64 },
-    Answered(Answer),
-}
-
 // Section 1: whether RAM of `len` bytes and `frames` frames from `base` is one that the document describes.
+#[tactic(auto, unfolding(crate::specs::Memory::image_fits))]
 fn fits_image(len: usize, base: u64, frames: u64) -> bool
     ensures { result ≡ image_fits len base frames }
 {
-    if memory::ram_fits(base, frames) {
-        return len as u64 == memory::FRAME_BYTES * frames;
-    }
-    false
+    memory::ram_fits(base, frames) && len as u64 == memory::FRAME_BYTES * frames
 }
 
+#[tactic(auto, unfolding(crate::specs::Both::root_fits))]
 fn fits_root(root: u64) -> bool
     ensures { result ≡ root_fits root }
 {
-    if root % memory::FRAME_BYTES != 0 {
-        return false;
-    }
-    root < memory::ADDRESS_END
+    root % memory::FRAME_BYTES == 0 && root < memory::ADDRESS_END
 }
 
-fn fits_stage2(len: usize, base: u64, frames: u64, root: u64, ipa: u64, access: u64) -> bool
-    ensures { result ≡ stage2_fits len base frames root ipa access }
+// Section 5: which numbers are not refused, but for the kind of access and the exception level.
+fn fits_stage2(len: usize, base: u64, frames: u64, root: u64, ipa: u64) -> bool
+    ensures { result ≡ (image_fits len base frames && (root_fits root && ltb ipa address_end)) }
 {
-    if fits_image(len, base, frames) {
-        if fits_root(root) {
-            if access < walk_descriptor::KINDS_OF_ACCESS {
-                return ipa < memory::ADDRESS_END;
-            }
-        }
-    }
-    false
+    fits_image(len, base, frames) && fits_root(root) && ipa < memory::ADDRESS_END
 }
 
-fn fits_access(access: u64, el: u64) -> bool
-    ensures { result ≡ (ltb access kinds_of_access && ltb el exception_levels) }
+fn fits_both(len: usize, base: u64, frames: u64, root1: u64, root2: u64) -> bool
+    ensures { result ≡ (image_fits len base frames && (root_fits root1 && root_fits root2)) }
 {
-    if access < walk_descriptor::KINDS_OF_ACCESS {
-        return el < walk_descriptor::EXCEPTION_LEVELS;
-    }
-    false
-}
-
-fn fits_both(
-    len: usize,
-    base: u64,
-    frames: u64,
-    root1: u64,
-    root2: u64,
-    access: u64,
-    el: u64,
-) -> bool
-    ensures { result ≡ both_fits len base frames root1 root2 access el }
-{
-    if fits_image(len, base, frames) {
-        if fits_root(root1) {
-            if fits_root(root2) {
-                return fits_access(access, el);
-            }
-        }
-    }
-    false
+    fits_image(len, base, frames) && fits_root(root1) && fits_root(root2)
 }
 
 // Stage 2 alone: access is 0 to read, 1 to write, 2 to execute.
+// Stays: this and both_stages take numbers, since C gives any, and `answer_2` and `answer` say which are refused.
 pub fn stage2(ram: &[u8], base: u64, frames: u64, root: u64, ipa: u64, access: u64) -> Answer
     ensures { result ≡ answer_2 ram.now base frames root ipa access }
 {
-    if fits_stage2(ram.len(), base, frames, root, ipa, access) {
-        return stage_2::answer(ram, base, root, access, ipa, 0);
+    match Access::try_from(access) {
+        Ok(access) if fits_stage2(ram.len(), base, frames, root, ipa) => {
+            Tables { base, root }.answer(ram, access, ipa, 0)
+        }
+        _ => Answer::Refused,
     }
-    Answer::Refused
 }
 
 // Both stages, at EL0 or EL1.
@@ -141,8 +96,17 @@ pub fn both_stages(
 ) -> Answer
     ensures { result ≡ answer ram.now base frames root1 root2 va access el }
 {
-    if fits_both(ram.len(), base, frames, root1, root2, access, el) {
-        return stage_1::both(ram, base, root1, root2, va, access, el);
+    match (Access::try_from(access), ExceptionLevel::try_from(el)) {
+        (Ok(access), Ok(el)) if fits_both(ram.len(), base, frames, root1, root2) => {
+            let stage_2 = Tables { base, root: root2 };
+            Sought {
+                stage_2,
+                access,
+                el,
+                va,
+            }
+            .both(ram, root1)
+        }
+        _ => Answer::Refused,
     }
-    Answer::Refused
 }

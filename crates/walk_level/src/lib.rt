@@ -1,4 +1,5 @@
 // Document 01, sections 2 and 4: where the descriptor of a level stands, and what it comes to there.
+// Stays: level ≤ last_level in each contract. slot and examine are public and take a number; a type for a level would be made at each call.
 #![tactic(auto)]
 
 ghost use Rattle.std.specs.Prelude.{◌≡◌, cond, ◌&&◌, ◌+◌, ◌*◌, ◌-◌, ◌<◌, ◌≤◌, ◌^◌, ◌/◌, ◌%◌, eqb};
@@ -9,7 +10,7 @@ ghost use Rattle.walk_level.specs.Stage.{leaf as leaf_of};
 ghost use Rattle.walk_level.specs.Step.{step_rules, step_of};
 ghost use Rattle.walk_level.specs.declared.Step.TheVariants.{Down, Output, Fail};
 
-use walk_descriptor::FaultKind;
+use walk_descriptor::{FaultKind, Rights, Wanted};
 
 // What a descriptor is divided by for the bit of this number.
 const BIT_10: u64 = 0x400;
@@ -29,7 +30,8 @@ const FIRST_INDEX: u64 = 39;
 const INDEX_BITS: u64 = 9;
 
 // What the descriptor at an address comes to; Absent where it is not in RAM.
-#[derive(Drop)]
+// Stays: Absent is no None, since `step_at` of walk, which theorems are about, has it beside the others.
+#[derive(Clone, Copy)]
 pub enum Step {
     Absent,
     Down(u64),
@@ -46,6 +48,7 @@ fn span(level: u64) -> u64
 }
 
 // The address of the descriptor for the input address `ia` in a table of a level.
+#[tactic(auto, unfolding(walk_descriptor::specs::Descriptor::slot))]
 pub fn slot(level: u64, ia: u64, table: u64) -> u64
     requires { (level ≤ last_level) × (table < address_end) }
     ensures { (result ≡ slot_of level ia table) × (result < 2 * address_end) }
@@ -77,52 +80,71 @@ fn bits_50_to_48_clear(d: u64) -> bool
 fn table(d: u64) -> Step
     ensures { result ≡ cond (eqb (bits_50_to_48 d) 0 && eqb (bits_63_to_59 d) 0) (Down (address_of d)) (Fail NotModelled) }
 {
-    if bits_50_to_48_clear(d) {
-        if d / BIT_59 == 0 {
-            return Step::Down(address(d));
+    if bits_50_to_48_clear(d) && d / BIT_59 == 0 {
+        Step::Down(address(d))
+    } else {
+        Step::Fail(FaultKind::NotModelled)
+    }
+}
+
+// What a stage is asked: what is wanted at the input address `ia`.
+#[derive(Clone, Copy)]
+pub struct Asked<R> {
+    pub wanted: R,
+    pub ia: u64,
+}
+
+impl<R: Rights> Asked<R> {
+    // A block or page with the output address `out`.
+    fn leaf(self, d: u64, out: u64) -> Step
+        ensures { result ≡ cond (eqb (bit 10 d) 0) (Fail AccessFlag)
+            (cond (R.rights_of self.wanted d) (Output out) (Fail Permission)) }
+    {
+        if d / BIT_10 % 2 == 0 {
+            Step::Fail(FaultKind::AccessFlag)
+        } else if self.wanted.allowed_by(d) {
+            Step::Output(out)
+        } else {
+            Step::Fail(FaultKind::Permission)
         }
     }
-    Step::Fail(FaultKind::NotModelled)
-}
 
-// A block or page with the output address `out`.
-fn leaf(stage: u64, access: u64, el: u64, d: u64, out: u64) -> Step
-    ensures { result ≡ cond (eqb (bit 10 d) 0) (Fail AccessFlag) (cond (allows stage access el d) (Output out) (Fail Permission)) }
-{
-    if d / BIT_10 % 2 == 0 {
-        return Step::Fail(FaultKind::AccessFlag);
-    }
-    if walk_descriptor::allowed(stage, access, el, d) {
-        return Step::Output(out);
-    }
-    Step::Fail(FaultKind::Permission)
-}
-
-fn block_or_page(stage: u64, access: u64, el: u64, ia: u64, level: u64, d: u64) -> Step
-    requires { level ≤ last_level }
-    ensures { result ≡ cond (eqb (bits_50_to_48 d) 0 && eqb (address_of d % span_of level) 0)
-        (leaf_of (step_rules (allows stage access el)) ia level d) (Fail NotModelled) }
-{
-    let size = span(level);
-    let start = address(d);
-    if bits_50_to_48_clear(d) {
-        if offset_in(start, size) == 0 {
-            return leaf(stage, access, el, d, start + offset_in(ia, size));
+    #[tactic(auto, unfolding(crate::specs::Stage::leaf))]
+    fn block_or_page(self, level: u64, d: u64) -> Step
+        requires { level ≤ last_level }
+        ensures { result ≡ cond (eqb (bits_50_to_48 d) 0 && eqb (address_of d % span_of level) 0)
+            (leaf_of (step_rules (R.rights_of self.wanted)) self.ia level d) (Fail NotModelled) }
+    {
+        let size = span(level);
+        let start = address(d);
+        if bits_50_to_48_clear(d) && offset_in(start, size) == 0 {
+            self.leaf(d, start + offset_in(self.ia, size))
+        } else {
+            Step::Fail(FaultKind::NotModelled)
         }
     }
-    Step::Fail(FaultKind::NotModelled)
+
+    // Section 4, points 2 to 5. Each part is called from one place, so that the compiler puts the whole into the walks.
+    #[tactic(auto, unfolding(crate::specs::Step::step_of, crate::specs::Stage::meaning, crate::specs::Stage::valid))]
+    pub fn comes_to(self, level: u64, d: u64) -> Step
+        requires { level ≤ last_level }
+        ensures { result ≡ step_of (R.rights_of self.wanted) self.ia level d }
+    {
+        if walk_descriptor::is_table(level, d) {
+            table(d)
+        } else if walk_descriptor::is_block_or_page(level, d) {
+            self.block_or_page(level, d)
+        } else {
+            Step::Fail(FaultKind::Translation)
+        }
+    }
 }
 
-// Section 4, points 2 to 5. Each part is called from one place, so that the compiler puts the whole into the walks.
+// Stays: docs/assurance/document-01.md names it, and it answers for every number (`allows`).
 pub fn examine(stage: u64, access: u64, el: u64, ia: u64, level: u64, d: u64) -> Step
     requires { level ≤ last_level }
     ensures { result ≡ step_of (allows stage access el) ia level d }
 {
-    if walk_descriptor::is_table(level, d) {
-        return table(d);
-    }
-    if walk_descriptor::is_block_or_page(level, d) {
-        return block_or_page(stage, access, el, ia, level, d);
-    }
-    Step::Fail(FaultKind::Translation)
+    let wanted = Wanted::of_numbers(stage, access, el);
+    Asked { wanted, ia }.comes_to(level, d)
 }

@@ -1,6 +1,2 @@
 // What is proved of the walk of document 01, a file for each sentence. All of it is in specs/.
 #![tactic(auto)]
-
-pub fn same(x: usize) -> usize {
-    x
-}

@@ -1,69 +1,54 @@
 -- What each store does to the state: one equation for each field of the ledger.
 use mathlib.Core.Path.{◌≡◌, refl, sym, ap, ◌∙◌, fun_ext}
-use mathlib.Core.Bool.{Bool, true, false, true≢false, cond}
+use mathlib.Core.Bool.{Bool, true, false, cond}
 use mathlib.Core.Logic.{◌⊎◌, inl, inr}
 use Prim.Native.Nat.{ℕ, zero, suc, ◌+◌, ◌*◌, ◌≤◌, ◌<◌, ◌/◌, ◌%◌}
 use native.Mathlib.Omega.{arith}
 use native.Mathlib.Numerals.{add-one}
 use lib.Dec.{eqb, ltb, leb}
-use borrow.Author.Tests.{lt-ltb, le-leb, ltb-true, leb-true}
-use Rattle.model.proofs.Laws.Base.{bool?, eq?, lt?, and_true}
+use mir.Val.{bool_byte as from_bool}
+use borrow.Author.Tests.{lt-ltb, lt-leb, ltb-true, leb-true}
+use Rattle.model.proofs.Laws.Base.{eq?, lt?, and_true}
 use Rattle.model.specs.Base.{sum, upd, upd2}
 use Rattle.model.proofs.Laws.Base.{upd_at, upd_other, upd2_at, upd2_other}
 use Rattle.model.specs.State.{NOTHING, State, monitor, guests, is_guest, total}
 use Rattle.model.specs.Changes.{zeros}
-use Rattle.ledger.specs.Columns.{GUEST_ROWS, HEADER, FREE_COUNT, FRAME_COUNT, EXISTS, DIRTY, ROOT, YES, KIND, GUEST, HEIGHT, RANGE, CELLS, SHARE_UNIT, FRAME_AT}
+use Rattle.ledger.specs.Columns.{GUEST_ROWS, HEADER, FREE_COUNT, EXISTS, DIRTY, ROOT, YES, KIND, GUEST, HEIGHT, RANGE, CELLS, SHARE_UNIT, FRAME_AT}
 use Rattle.ledger.proofs.Laws.Cells.{column_other, upd_map}
 use Rattle.ledger.specs.Layout.{kind_at, size_in, first_in, kind_in, per_guest, share_part, count_part, exists_in, dirty_in, root_in, state_in}
 use Rattle.ledger.specs.Fields.{remade, with_kind, with_cell, with_share, with_no_shares, with_count, with_existence, with_root_at, with_dirt}
 
+-- What a stored bool says.
+yes_stored : (f : ℕ → ℕ) (g : ℕ) (b : Bool) → (λ x. eqb (upd f g (from_bool b) x) YES) ≡ upd (λ x. eqb (f x) YES) g b
+yes_stored f g b = upd_map (λ x. eqb x YES) f g (from_bool b) ∙ ap (upd (λ x. eqb (f x) YES) g) (same b)
+  where
+    same : (b : Bool) → eqb (from_bool b) YES ≡ b
+    same true = refl
+    same false = refl
+
 -- A guest's row.
-module _ (F G w : ℕ → ℕ → ℕ) (g v : ℕ) where
-  pub state_existence : state_in F (upd2 G EXISTS g v) w ≡ with_existence g (eqb v YES) (state_in F G w)
+module _ (F G w : ℕ → ℕ → ℕ) (g : ℕ) where
+  pub state_existence : (b : Bool) → state_in F (upd2 G EXISTS g (from_bool b)) w ≡ with_existence g b (state_in F G w)
   unfolding state_in with_existence remade size_in first_in kind_in exists_in dirty_in root_in upd2 upd
-  state_existence = λ i. record {
-    size = G FRAME_COUNT HEADER;
-    first = first_in G;
-    kind = kind_in F G;
-    shared = per_guest share_part F;
-    count = per_guest count_part F;
-    exists = upd_map (λ x. eqb x YES) (G EXISTS) g v i;
-    root = G ROOT;
-    dirty = dirty_in G;
-    word = w;
-  }
+  state_existence b = ap (λ (e : ℕ → Bool). remade (state_in F G w) (kind_in F G) (per_guest share_part F) (per_guest count_part F) e
+      (G ROOT) (dirty_in G) w) (yes_stored (G EXISTS) g b)
 
-  pub state_dirt : state_in F (upd2 G DIRTY g v) w ≡ with_dirt g (eqb v YES) (state_in F G w)
+  pub state_dirt : (b : Bool) → state_in F (upd2 G DIRTY g (from_bool b)) w ≡ with_dirt g b (state_in F G w)
   unfolding state_in with_dirt remade size_in first_in kind_in exists_in dirty_in root_in upd2 upd
-  state_dirt = λ i. record {
-    size = G FRAME_COUNT HEADER;
-    first = first_in G;
-    kind = kind_in F G;
-    shared = per_guest share_part F;
-    count = per_guest count_part F;
-    exists = exists_in G;
-    root = G ROOT;
-    dirty = upd_map (λ x. eqb x YES) (G DIRTY) g v i;
-    word = w;
-  }
+  state_dirt b = ap (λ (d : ℕ → Bool). remade (state_in F G w) (kind_in F G) (per_guest share_part F) (per_guest count_part F) (exists_in G)
+      (G ROOT) d w) (yes_stored (G DIRTY) g b)
 
-  pub state_root : state_in F (upd2 G ROOT g v) w ≡ with_root_at g v (state_in F G w)
+  pub state_root : (t : ℕ) → state_in F (upd2 G ROOT g t) w ≡ with_root_at g t (state_in F G w)
   unfolding state_in with_root_at remade size_in first_in kind_in exists_in dirty_in root_in upd2 upd
-  state_root = refl
+  state_root t = refl
 
-  -- the number of free frames is no part of the state
-  pub state_free : state_in F (upd2 G FREE_COUNT HEADER v) w ≡ state_in F G w
-  unfolding state_in size_in first_in kind_in exists_in dirty_in root_in upd2 upd
-  state_free = refl
+-- the number of free frames is no part of the state
+pub state_free : (F G w : ℕ → ℕ → ℕ) (v : ℕ) → state_in F (upd2 G FREE_COUNT HEADER v) w ≡ state_in F G w
+unfolding state_in size_in first_in kind_in exists_in dirty_in root_in upd2 upd
+state_free F G w v = refl
 
 pub guest_range : (g : ℕ) → is_guest g ≡ true → (0 < g) × (g ≤ guests)
 guest_range g e = let a = and_true (ltb 0 g) (leb g guests) e in (ltb-true 0 g a.0, leb-true g guests a.1)
-
-pub guest_is : (g : ℕ) → (g ≡ 0 → ⊥) → g ≤ guests → is_guest g ≡ true
-guest_is g a b = rw (lt-ltb 0 g (pos g a), le-leb g guests b)
-  where
-    pos : (g : ℕ) → (g ≡ 0 → ⊥) → 0 < g
-    pos g a = omega arith
 
 pub guest_low : (g : ℕ) → is_guest g ≡ true → (0 < g) × (g < GUEST_ROWS)
 guest_low g e = let a = guest_range g e in let a1 = a.1 in (a.0, omega arith)
@@ -126,10 +111,14 @@ unfolding kind_in
 kind_keep F F' G a b c d = fun_ext (λ f. rw (a, b, c, d))
 
 -- the two numbers of the cell
-pub cell_is : (F : ℕ → ℕ → ℕ) (f g : ℕ) → is_guest g ≡ true → {x : ℕ} → x ≡ F (CELLS + g) f →
-    (x / SHARE_UNIT ≡ per_guest share_part F f g) × (x % SHARE_UNIT ≡ per_guest count_part F f g)
-unfolding per_guest share_part count_part
-cell_is F f g hg e = rw (hg, e) (refl, refl)
+module _ (F : ℕ → ℕ → ℕ) (f g : ℕ) (hg : is_guest g ≡ true) where
+  pub share_is : F (CELLS + g) f / SHARE_UNIT ≡ per_guest share_part F f g
+  unfolding per_guest share_part
+  share_is = rw hg refl
+
+  pub count_is : F (CELLS + g) f % SHARE_UNIT ≡ per_guest count_part F f g
+  unfolding per_guest count_part
+  count_is = rw hg refl
 
 module _ (F G w : ℕ → ℕ → ℕ) (f g : ℕ) (hg : is_guest g ≡ true) where
   off : (j : ℕ) → j ≤ RANGE → j ≡ CELLS + g → ⊥
@@ -217,88 +206,74 @@ module _ (F F' G w : ℕ → ℕ → ℕ) (f k g h p : ℕ) (hf : f < size_in G)
     word = w;
   }
 
--- nobody shares: a frame's cells for all guests, one after the other
-unfoldable pub unshared_to : (h f : ℕ) → State → State
-unshared_to zero f s = s
-unshared_to (suc h) f s = with_share f (suc h) NOTHING (unshared_to h f s)
+-- Nobody shares: a frame's cells for the guests below g, one after the other; 0 is no guest, and its cell is none.
+unfoldable pub unshared_below : (g f : ℕ) → State → State
+unshared_below zero f s = s
+unshared_below (suc h) f s = with_share f h NOTHING (unshared_below h f s)
 
 module _ (f : ℕ) (s : State) where
-  unshared_here : (h g : ℕ) → 0 < g → g ≤ h → (unshared_to h f s).shared f g ≡ 0
-  unfolding unshared_to with_share remade
-  unshared_here zero g a b = absurd (omega arith)
-  unshared_here (suc h) g a b = elim (eq? g (suc h)) [
-    | inl e ↦ upd2_at (unshared_to h f s).shared f (suc h) 0 f g refl e
-    | inr e ↦ upd2_other (unshared_to h f s).shared f (suc h) 0 f g (λ _ x. e x) ∙ unshared_here h g a (omega arith)
+  unshared_here : (h g : ℕ) → g < h → (unshared_below h f s).shared f g ≡ 0
+  unfolding unshared_below with_share remade
+  unshared_here zero g a = absurd (omega arith)
+  unshared_here (suc h) g a = elim (eq? g h) [
+    | inl e ↦ upd2_at (unshared_below h f s).shared f h 0 f g refl e
+    | inr e ↦ upd2_other (unshared_below h f s).shared f h 0 f g (λ _ x. e x) ∙ unshared_here h g (omega arith)
   ]
 
-  unshared_there : (h x g : ℕ) → ((x ≡ f → ⊥) ⊎ (g ≡ 0)) → (unshared_to h f s).shared x g ≡ s.shared x g
-  unfolding unshared_to with_share remade
+  unshared_there : (h x g : ℕ) → ((x ≡ f → ⊥) ⊎ (h ≤ g)) → (unshared_below h f s).shared x g ≡ s.shared x g
+  unfolding unshared_below with_share remade
   unshared_there zero x g a = refl
-  unshared_there (suc h) x g (inl a) = upd2_other (unshared_to h f s).shared f (suc h) 0 x g (λ e _. a e) ∙ unshared_there h x g (inl a)
-  unshared_there (suc h) x g (inr a) = upd2_other (unshared_to h f s).shared f (suc h) 0 x g (λ _ (e : g ≡ suc h). omega arith)
-      ∙ unshared_there h x g (inr a)
+  unshared_there (suc h) x g (inl a) = upd2_other (unshared_below h f s).shared f h 0 x g (λ e _. a e) ∙ unshared_there h x g (inl a)
+  unshared_there (suc h) x g (inr a) = upd2_other (unshared_below h f s).shared f h 0 x g (λ _ (e : g ≡ h). omega arith)
+      ∙ unshared_there h x g (inr (omega arith))
 
-  unshared_above : (h x g : ℕ) → h < g → (unshared_to h f s).shared x g ≡ s.shared x g
-  unfolding unshared_to with_share remade
-  unshared_above zero x g a = refl
-  unshared_above (suc h) x g a = upd2_other (unshared_to h f s).shared f (suc h) 0 x g (λ _ (e : g ≡ suc h). omega arith)
-      ∙ unshared_above h x g (omega arith)
-
-pub unshared_size : (h f : ℕ) (s : State) → (unshared_to h f s).size ≡ s.size
-unfolding unshared_to with_share remade
+pub unshared_size : (h f : ℕ) (s : State) → (unshared_below h f s).size ≡ s.size
+unfolding unshared_below with_share remade
 unshared_size zero f s = refl
 unshared_size (suc h) f s = unshared_size h f s
 
-pub nobody_shares : (F G w : ℕ → ℕ → ℕ) (f : ℕ) → unshared_to guests f (state_in F G w) ≡ with_no_shares f (state_in F G w)
-unfolding unshared_to with_share with_no_shares remade state_in
-nobody_shares F G w f = λ i. record {
-  size = size_in G;
-  first = first_in G;
-  kind = kind_in F G;
-  shared = gone i;
-  count = per_guest count_part F;
-  exists = exists_in G;
-  root = root_in G;
-  dirty = dirty_in G;
-  word = w;
-}
-  where
-    at : (x g : ℕ) → (unshared_to guests f (state_in F G w)).shared x g ≡ upd (state_in F G w).shared f zeros x g
-    at x g = elim (eq? x f) [
-      | inr e ↦ unshared_there f (state_in F G w) guests x g (inl e)
-          ∙ ap (λ (z : ℕ → ℕ). z g) (sym (upd_other (state_in F G w).shared f zeros x e))
-      | inl e ↦ ap (λ (y : ℕ). (unshared_to guests f (state_in F G w)).shared y g) e ∙ zero_at g (bool? (is_guest g))
-          ∙ ap (λ (z : ℕ → ℕ). z g) (sym (upd_at (state_in F G w).shared f zeros x e))
-    ]
-      where
-        zero_at : (g : ℕ) → (is_guest g ≡ true) ⊎ (is_guest g ≡ false) → (unshared_to guests f (state_in F G w)).shared f g ≡ zeros g
-        zero_at g (inl t) = unfold zeros in unshared_here f (state_in F G w) guests g (guest_range g t).0 (guest_range g t).1
-        zero_at g (inr t) = elim (lt? guests g) [
-          | inl l ↦ unshared_above f (state_in F G w) guests f g l ∙ none g t
-          | inr l ↦ elim (eq? g 0) [
-            | inl z ↦ unshared_there f (state_in F G w) guests f g (inr z) ∙ none g t
-            | inr z ↦ absurd (true≢false (sym (guest_is g z l) ∙ t))
-          ]
-        ]
-          where
-            none : (g : ℕ) → is_guest g ≡ false → (state_in F G w).shared f g ≡ zeros g
-            none g t = unfold state_in per_guest zeros in rw t
+module _ (F G w : ℕ → ℕ → ℕ) (f : ℕ) where
+  with_shared : (ℕ → ℕ → ℕ) → State
+  with_shared S = let s = state_in F G w in remade s s.kind S s.count s.exists s.root s.dirty s.word
 
-    gone : (unshared_to guests f (state_in F G w)).shared ≡ upd (state_in F G w).shared f zeros
-    gone = fun_ext (λ x. fun_ext (λ g. at x g))
+  pub guest_0_unshared : unshared_below 1 f (state_in F G w) ≡ state_in F G w
+  unfolding with_shared unshared_below with_share remade state_in per_guest
+  guest_0_unshared = ap with_shared (upd2_self (per_guest share_part F) f 0 0 refl)
 
--- of guests 1 to g: none yet, one more, all
-unfoldable pub so_far : (c : ℕ → ℕ) (g : ℕ) → ℕ
-so_far c g = sum g (λ h. c (suc h))
+  pub nobody_shares : unshared_below (guests + 1) f (state_in F G w) ≡ with_no_shares f (state_in F G w)
+  unfolding with_shared unshared_below with_share with_no_shares remade state_in
+  nobody_shares = ap with_shared gone
+    where
+      zero_at : (g : ℕ) → (unshared_below (guests + 1) f (state_in F G w)).shared f g ≡ zeros g
+      zero_at g = elim (lt? guests g) [
+        | inr l ↦ unfold zeros in unshared_here f (state_in F G w) (guests + 1) g (omega arith)
+        | inl l ↦ unshared_there f (state_in F G w) (guests + 1) f g (inr (omega arith)) ∙ none g l
+      ]
+        where
+          none : (g : ℕ) → guests < g → (state_in F G w).shared f g ≡ zeros g
+          none g l = unfold state_in per_guest zeros in rw (lt-ltb 0 g (omega arith), lt-leb g guests l)
 
-pub none_yet : (c : ℕ → ℕ) → 0 ≡ so_far c 0
-unfolding so_far sum
-none_yet c = refl
+      at : (x g : ℕ) → (unshared_below (guests + 1) f (state_in F G w)).shared x g ≡ upd (state_in F G w).shared f zeros x g
+      at x g = elim (eq? x f) [
+        | inr e ↦ unshared_there f (state_in F G w) (guests + 1) x g (inl e)
+            ∙ ap (λ (z : ℕ → ℕ). z g) (sym (upd_other (state_in F G w).shared f zeros x e))
+        | inl e ↦ ap (λ (y : ℕ). (unshared_below (guests + 1) f (state_in F G w)).shared y g) e ∙ zero_at g
+            ∙ ap (λ (z : ℕ → ℕ). z g) (sym (upd_at (state_in F G w).shared f zeros x e))
+      ]
 
-pub one_more : (c : ℕ → ℕ) (g n x : ℕ) → n ≡ so_far c g → x ≡ c (g + 1) → n + x ≡ so_far c (g + 1)
-unfolding so_far sum
-one_more c g n x a b = rw (add-one g) (rw (a, b, add-one g))
+      gone : (unshared_below (guests + 1) f (state_in F G w)).shared ≡ upd (state_in F G w).shared f zeros
+      gone = fun_ext (λ x. fun_ext (λ g. at x g))
 
-pub all_told : (c : ℕ → ℕ) (g n : ℕ) → g ≤ guests → guests ≤ g → n ≡ so_far c g → n ≡ total c
-unfolding so_far total
-all_told c g n a b e = let q : g ≡ guests = omega arith in e ∙ ap (λ (x : ℕ). sum x (λ h. c (suc h))) q
+-- What all guests have: of those below g none yet, one more, all.
+module _ (part : ℕ → ℕ) (F : ℕ → ℕ → ℕ) (f : ℕ) where
+  pub none_yet : 0 ≡ sum 1 (per_guest part F f)
+  unfolding sum per_guest
+  none_yet = refl
+
+  pub all_told : (g : ℕ) → g ≡ guests + 1 → sum g (per_guest part F f) ≡ total (per_guest part F f)
+  unfolding sum total per_guest
+  all_told g e = rw e refl
+
+pub one_more : (g : ℕ) (c : ℕ → ℕ) → sum (g + 1) c ≡ sum g c + c g
+unfolding sum
+one_more g c = rw (add-one g) refl

@@ -4,15 +4,17 @@ use mathlib.Core.Bool.{Bool, true, false, cond}
 use mathlib.Core.Logic.{inl, inr}
 use Prim.Native.Nat.{ℕ, ◌<◌, ◌≤◌}
 use native.Mathlib.Omega.{arith}
-use lib.Dec.{eqb, ltb}
-use borrow.Author.Tests.{lt-ltb, le-ltb, ne_eqb}
+use lib.Dec.{eqb, ltb, leb}
+use borrow.Author.Tests.{lt-ltb, le-ltb, le-leb, ne_eqb}
 use Rattle.model.proofs.Laws.Base.{eq?, lt?}
 use Rattle.model.specs.State.{KindOfFrame, monitor, free, table, draining_table, page, draining_page, is_free, is_page, is_page_of}
 use Rattle.model.specs.Changes.{drained, released}
-use Rattle.model.specs.State.{kind_number, MONITOR, FREE, TABLE, DRAINING_TABLE, PAGE, DRAINING_PAGE}
+use Rattle.model.specs.State.{NOTHING, WRITING, kind_number, MONITOR, FREE, TABLE, DRAINING_TABLE, PAGE, DRAINING_PAGE}
 use Rattle.ledger.specs.Columns.{KIND, GUEST, HEIGHT, RANGE}
 use Rattle.ledger.specs.Layout.{kind_at, size_in, kind_in}
-use Rattle.ledger.specs.Kinds.{guest_in, kind_for}
+use Rattle.ledger.specs.Kinds.{guest_in, kind_code, known_kind, kind_for, known_share}
+use Rattle.ledger.specs.declared.kinds.Kind.{Kind}
+use Rattle.ledger.specs.declared.kinds.Kind.TheVariants.{Monitor, Free, Table, DrainingTable, Page, DrainingPage}
 
 -- a frame that is there
 pub kind_here : (F G : ℕ → ℕ → ℕ) (f : ℕ) → f < size_in G → kind_in F G f ≡ kind_at (F KIND f) (F GUEST f) (F HEIGHT f) (F RANGE f)
@@ -100,10 +102,6 @@ module _ (g h p : ℕ) where
           k ≤ DRAINING_PAGE → MONITOR ≡ k
       none k a b c d e l = elim (eq? MONITOR k) [ inl x ↦ x | inr x ↦ absurd (omega arith) ]
 
-  pub guest_none : (k : ℕ) → kind_number (kind_at k g h p) < TABLE → guest_in (kind_at k g h p) ≡ 0
-  guest_none = each (λ k x. kind_number x < TABLE → guest_in x ≡ 0) (λ l. refl) (λ l. absurd (omega arith)) (λ l. absurd (omega arith))
-      (λ l. absurd (omega arith)) (λ l. absurd (omega arith)) (λ k o l. refl)
-
   pub guest_is_in : (k : ℕ) → TABLE ≤ kind_number (kind_at k g h p) → guest_in (kind_at k g h p) ≡ g
   guest_is_in = each (λ k x. TABLE ≤ kind_number x → guest_in x ≡ g) (λ l. absurd (omega arith)) (λ l. refl) (λ l. refl) (λ l. refl)
       (λ l. refl) (λ k o l. absurd (omega arith))
@@ -113,9 +111,6 @@ module _ (F G : ℕ → ℕ → ℕ) (f : ℕ) (low : f < size_in G) where
   pub free_here : is_free (kind_in F G f) ≡ eqb (F KIND f) FREE
   free_here = ap is_free (kind_here F G f low) ∙ free_test (F GUEST f) (F HEIGHT f) (F RANGE f) (F KIND f)
 
-  pub page_here : is_page (kind_in F G f) ≡ eqb (F KIND f) PAGE
-  page_here = ap is_page (kind_here F G f low) ∙ page_test (F GUEST f) (F HEIGHT f) (F RANGE f) (F KIND f)
-
   pub page_of_here : (g : ℕ) → is_page_of (kind_in F G f) g ≡ eqb (kind_for F f g) PAGE
   page_of_here g = ap (λ (x : KindOfFrame). is_page_of x g) (kind_here F G f low)
       ∙ page_of_test (F GUEST f) (F HEIGHT f) (F RANGE f) g (F KIND f)
@@ -123,10 +118,49 @@ module _ (F G : ℕ → ℕ → ℕ) (f : ℕ) (low : f < size_in G) where
   pub number_here : kind_number (kind_in F G f) ≡ cond (ltb DRAINING_PAGE (F KIND f)) MONITOR (F KIND f)
   number_here = ap kind_number (kind_here F G f low) ∙ number_test (F GUEST f) (F HEIGHT f) (F RANGE f) (F KIND f)
 
-  pub nobody_here : (k : ℕ) → k ≡ kind_number (kind_in F G f) → k < TABLE → 0 ≡ guest_in (kind_in F G f)
-  nobody_here k e l = rw (kind_here F G f low) (sym (guest_none (F GUEST f) (F HEIGHT f) (F RANGE f) (F KIND f)
-      (rw (e, kind_here F G f low) at l)))
-
   pub guest_here : (k : ℕ) → k ≡ kind_number (kind_in F G f) → TABLE ≤ k → F GUEST f ≡ guest_in (kind_in F G f)
   guest_here k e l = rw (kind_here F G f low) (sym (guest_is_in (F GUEST f) (F HEIGHT f) (F RANGE f) (F KIND f)
       (rw (e, kind_here F G f low) at l)))
+
+-- the kind of a number
+abbrev named : ℕ → Kind
+named n =
+    cond (eqb n FREE) Free (
+    cond (eqb n TABLE) Table (
+    cond (eqb n DRAINING_TABLE) DrainingTable (
+    cond (eqb n PAGE) Page (
+    cond (eqb n DRAINING_PAGE) DrainingPage (
+    Monitor)))))
+
+named_code : (k : Kind) → named (kind_code k) ≡ k
+named_code Monitor = refl
+named_code Free = refl
+named_code Table = refl
+named_code DrainingTable = refl
+named_code Page = refl
+named_code DrainingPage = refl
+
+-- each kind has its own number
+pub code_apart : (k j : Kind) → (k ≡ j → ⊥) → kind_code k ≡ kind_code j → ⊥
+code_apart k j ne e = ne (sym (named_code k) ∙ ap named e ∙ named_code j)
+
+pub known_code : (k : Kind) → known_kind (kind_code k) ≡ kind_code k
+known_code Monitor = refl
+known_code Free = refl
+known_code Table = refl
+known_code DrainingTable = refl
+known_code Page = refl
+known_code DrainingPage = refl
+
+-- what of a stored number Shared keeps
+pub known_nothing : (n : ℕ) → eqb (known_share n) NOTHING ≡ eqb n NOTHING
+known_nothing n = elim (lt? WRITING n) [
+  | inl l ↦ rw (lt-ltb WRITING n l, ne_eqb n NOTHING (λ e. omega arith)) refl
+  | inr l ↦ rw (le-ltb WRITING n l) refl
+]
+
+pub known_writing : (n : ℕ) → leb WRITING (known_share n) ≡ leb WRITING n
+known_writing n = elim (lt? WRITING n) [
+  | inl l ↦ rw (lt-ltb WRITING n l, le-leb WRITING n (omega arith)) refl
+  | inr l ↦ rw (le-ltb WRITING n l) refl
+]

@@ -47,9 +47,10 @@ module _ (m : List ℕ) (f : ℕ) (room : Within m f) where
       inside a b l (inl p) (inr q) = rw (upd2_other (word_of m) f i x a b (λ _ y. q y), lt-ltb b 512 l) (away a b l (λ _ y. q y))
       inside a b l (inr p) q = rw (upd2_other (word_of m) f i x a b (λ y _. p y), lt-ltb b 512 l) (away a b l (λ y _. p y))
 
-  pub word_cleared : word_of (cleared_at m (f * 4096) 4096) ≡ upd (word_of m) f zeros
+  pub word_cleared : (at : ℕ) → at ≡ f * 4096 → word_of (cleared_at m at 4096) ≡ upd (word_of m) f zeros
   unfolding word_of zeros
-  word_cleared = fun_ext (λ a. fun_ext (λ b. elim (lt? b 512) [ inl l ↦ inside a b l (eq? a f) | inr l ↦ outside a b l (eq? a f) ]))
+  word_cleared at e = rw e
+      (fun_ext (λ a. fun_ext (λ b. elim (lt? b 512) [ inl l ↦ inside a b l (eq? a f) | inr l ↦ outside a b l (eq? a f) ])))
     where
       outside : (a b : ℕ) → 512 ≤ b → (a ≡ f) ⊎ (a ≡ f → ⊥) → word_of (cleared_at m (f * 4096) 4096) a b ≡ upd (word_of m) f zeros a b
       outside a b l (inl p) = rw (upd_at (word_of m) f zeros a p, le-ltb b 512 l)

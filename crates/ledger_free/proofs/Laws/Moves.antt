@@ -5,17 +5,19 @@ use mathlib.Core.Logic.{◌⊎◌, inl, inr}
 use mathlib.Core.List.{List}
 use Prim.Native.Nat.{ℕ, suc, ◌+◌, ◌*◌, ◌-◌, ◌≤◌, ◌<◌}
 use native.Mathlib.Omega.{arith}
-use lib.Dec.{eqb}
+use lib.Dec.{eqb, ltb}
 use lib.ListN.{length}
 use borrow.Author.Tests.{eq-eqb, eqb-true}
 use Rattle.model.specs.Base.{upd, upd2}
-use Rattle.model.specs.State.{MONITOR, FREE, TABLE, DRAINING_TABLE, PAGE, DRAINING_PAGE, KindOfFrame, free, table, page, is_free}
+use Rattle.model.specs.State.{MONITOR, FREE, TABLE, PAGE, DRAINING_PAGE, KindOfFrame, free, table, page, is_free}
 use Rattle.model.specs.Changes.{drained, released}
 use Rattle.ledger.specs.Cells.{store}
 use Rattle.ledger.specs.Layout.{Row, frames, guest_rows, kind_at, size_in, pick_in, pick_of, size_of, kind_of, state_in, state_of}
 use Rattle.ledger.specs.Columns.{ROW_WORDS, HEADER_WORDS, room_for_frames, HEADER, FREE_COUNT, KIND, GUEST, HEIGHT, RANGE, FRAME_AT, PLACE}
-use Rattle.ledger.proofs.Laws.Kinds.{kind_here, free_here, stays, remains}
-use Rattle.ledger.specs.Kinds.{kind_for, draining}
+use Rattle.ledger.proofs.Laws.Kinds.{kind_here, free_here, stays, remains, code_apart, known_code}
+use Rattle.ledger.specs.Kinds.{kind_code, known_kind, kind_for, draining}
+use Rattle.ledger.specs.declared.kinds.Kind.{Kind}
+use Rattle.ledger.specs.declared.kinds.Kind.TheVariants.{Table, DrainingTable, Page, DrainingPage}
 use Rattle.ledger.specs.FreeSet.{FreeSet}
 use Rattle.ledger.specs.Fields.{remade, with_kind, with_kind_by}
 use Rattle.ledger.specs.LedgerSound.{RowsSound, LedgerSound, Holds, Changed, Taken}
@@ -97,7 +99,7 @@ module _ (l : List ℕ) (s : LedgerSound l) (f : ℕ) (hf : f < size_of l) where
           Changed (with_kind f (kind_at k g h p)) l l'
       becomes e1 e2 e3 same = changed l l' F'' new_guests x stocked (λ w.
           state_kind old_frames F'' new_guests w f k g h p (unfold size_in upd2 upd in hf) e0 e1 e2 e3 same
-          ∙ ap (with_kind f (kind_at k g h p)) (state_free old_frames old_guests w f count'))
+          ∙ ap (with_kind f (kind_at k g h p)) (state_free old_frames old_guests w count'))
 
   -- the free frame f leaves the free set and becomes k
   module _ (was : kind_of l f ≡ free) where
@@ -235,60 +237,67 @@ module _ (l : List ℕ) (s : LedgerSound l) (f : ℕ) (hf : f < size_of l) where
           ap (λ (K : ℕ → KindOfFrame). remade (state_of ram l) K (state_of ram l).shared (state_of ram l).count (state_of ram l).exists
           (state_of ram l).root (state_of ram l).dirty (state_of ram l).word) (ap (upd (kind_of l) f) e ∙ upd_self (kind_of l) f)
 
-  -- by the number k that the code has read of f for guest g
-  module _ (g k : ℕ) (ek : k ≡ kind_for old_frames f g) where
-    is_it : (j : ℕ) → k ≡ j → 0 < j → (eqb (old_frames GUEST f) g ≡ true) × (old_frames KIND f ≡ j)
-    is_it j e pos = go (eqb (old_frames GUEST f) g) (sym ek ∙ e)
+  -- by the kind k that the code has read of f for guest g, from the number n
+  module _ (g n : ℕ) (k : Kind) (en : n ≡ kind_for old_frames f g) (named : kind_code k ≡ known_kind n) where
+    ek : kind_code k ≡ known_kind (kind_for old_frames f g)
+    ek = named ∙ ap known_kind en
+
+    other : (j : Kind) → (k ≡ j → ⊥) → kind_for old_frames f g ≡ kind_code j → ⊥
+    other j ne e = code_apart k j ne (ek ∙ ap known_kind e ∙ known_code j)
+
+    is_it : (j : Kind) → k ≡ j → 0 < kind_code j → (eqb (old_frames GUEST f) g ≡ true) × (old_frames KIND f ≡ kind_code j)
+    is_it j e pos = go (eqb (old_frames GUEST f) g) (sym ek ∙ ap kind_code e)
       where
-        go : (b : Bool) → cond b (old_frames KIND f) MONITOR ≡ j → (b ≡ true) × (old_frames KIND f ≡ j)
-        go true x = (refl, x)
+        stored : (b : Bool) (n : ℕ) → cond b MONITOR n ≡ kind_code j → n ≡ kind_code j
+        stored true n x = absurd (omega arith)
+        stored false n x = x
+
+        go : (b : Bool) → known_kind (cond b (old_frames KIND f) MONITOR) ≡ kind_code j → (b ≡ true) × (old_frames KIND f ≡ kind_code j)
+        go true x = (refl, stored (ltb DRAINING_PAGE (old_frames KIND f)) (old_frames KIND f) x)
         go false x = absurd (omega arith)
 
-    known : {A : Type 0} (φ : KindOfFrame → A) (j : ℕ) (y : A) → k ≡ j → 0 < j →
-        (eqb (old_frames GUEST f) g ≡ true → φ (kind_at j (old_frames GUEST f) (old_frames HEIGHT f) (old_frames RANGE f)) ≡ y) →
+    known : {A : Type 0} (φ : KindOfFrame → A) (j : Kind) (y : A) → k ≡ j → 0 < kind_code j →
+        (eqb (old_frames GUEST f) g ≡ true →
+        φ (kind_at (kind_code j) (old_frames GUEST f) (old_frames HEIGHT f) (old_frames RANGE f)) ≡ y) →
         φ (kind_of l f) ≡ y
     known φ j y e pos x = let a = is_it j e pos in rw (kind_here old_frames old_guests f hf, a.1) (x a.0)
 
-    pub drain_none : (k ≡ TABLE → ⊥) → (k ≡ PAGE → ⊥) → Changed (with_kind_by f (drained g)) l l
+    pub drain_none : (k ≡ Table → ⊥) → (k ≡ Page → ⊥) → Changed (with_kind_by f (drained g)) l l
     drain_none a b = unturned _ (rw (kind_here old_frames old_guests f hf)
-        (stays (old_frames GUEST f) (old_frames HEIGHT f) (old_frames RANGE f) g (old_frames KIND f) (λ e. a (ek ∙ e))
-        (λ e. b (ek ∙ e))))
+        (stays (old_frames GUEST f) (old_frames HEIGHT f) (old_frames RANGE f) g (old_frames KIND f) (other Table a) (other Page b)))
 
-    pub in_use : (k ≡ TABLE) ⊎ (k ≡ PAGE) → (FREE < k) × (FREE < draining k) × (draining k ≤ DRAINING_PAGE)
-    in_use (inl e) = rw e (omega arith, omega arith, omega arith)
-    in_use (inr e) = rw e (omega arith, omega arith, omega arith)
-
-    pub drain_one : {d : ℕ} {l' : List ℕ} → (k ≡ TABLE) ⊎ (k ≡ PAGE) → d ≡ draining k → l' ≡ store HEADER_WORDS l KIND f d →
+    -- it becomes a kind that is not free
+    drain_as : (j i : Kind) {d : ℕ} {l' : List ℕ} → k ≡ j → FREE < kind_code j → FREE < kind_code i →
+        (eqb (old_frames GUEST f) g ≡ true →
+        drained g (kind_at (kind_code j) (old_frames GUEST f) (old_frames HEIGHT f) (old_frames RANGE f)) ≡
+        kind_at (kind_code i) (old_frames GUEST f) (old_frames HEIGHT f) (old_frames RANGE f)) →
+        d ≡ kind_code i → l' ≡ store HEADER_WORDS l KIND f d →
         Changed (with_kind_by f (drained g)) l l'
-    drain_one {d} {l'} which ed x =
-        let low = in_use which in let low0 = low.0 in let low1 = low.1 in
-        let a = is_it k refl (omega arith) in let a1 = a.1 in
-        turned _ _ l' (to which) (relabelled (λ (y : old_frames KIND f ≡ FREE). omega arith) (draining k) l'
-        (λ (y : draining k ≡ FREE). omega arith)
+    drain_as j i {d} {l'} e low low' to ed x =
+        let a = is_it j e (omega arith) in let a1 = a.1 in
+        turned _ _ l' (known (drained g) j _ e (omega arith) to)
+        (relabelled (λ (y : old_frames KIND f ≡ FREE). omega arith) (kind_code i) l' (λ (y : kind_code i ≡ FREE). omega arith)
         (x ∙ ap (store HEADER_WORDS l KIND f) ed))
-      where
-        to : (k ≡ TABLE) ⊎ (k ≡ PAGE) → drained g (kind_of l f) ≡
-            kind_at (draining k) (old_frames GUEST f) (old_frames HEIGHT f) (old_frames RANGE f)
-        to (inl y) = rw y (known (drained g) TABLE (kind_at DRAINING_TABLE (old_frames GUEST f) (old_frames HEIGHT f)
-            (old_frames RANGE f)) y (omega arith)
-            (λ t. unfold kind_at drained in rw t))
-        to (inr y) = rw y (known (drained g) PAGE (kind_at DRAINING_PAGE (old_frames GUEST f) (old_frames HEIGHT f) (old_frames RANGE f))
-            y (omega arith)
-            (λ t. unfold kind_at drained in rw t))
 
-    pub release_none : (k ≡ DRAINING_TABLE → ⊥) → (k ≡ DRAINING_PAGE → ⊥) → Changed (with_kind_by f (released g)) l l
+    pub drain_one : {d : ℕ} {l' : List ℕ} → (k ≡ Table) ⊎ (k ≡ Page) → d ≡ draining (kind_code k) → l' ≡ store HEADER_WORDS l KIND f d →
+        Changed (with_kind_by f (drained g)) l l'
+    drain_one (inl e) ed x = drain_as Table DrainingTable e (omega arith) (omega arith) (λ t. unfold kind_at drained in rw t)
+        (rw e at ed) x
+    drain_one (inr e) ed x = drain_as Page DrainingPage e (omega arith) (omega arith) (λ t. unfold kind_at drained in rw t) (rw e at ed) x
+
+    pub release_none : (k ≡ DrainingTable → ⊥) → (k ≡ DrainingPage → ⊥) → Changed (with_kind_by f (released g)) l l
     release_none a b = unturned _ (rw (kind_here old_frames old_guests f hf)
-        (remains (old_frames GUEST f) (old_frames HEIGHT f) (old_frames RANGE f) g (old_frames KIND f) (λ e. a (ek ∙ e))
-        (λ e. b (ek ∙ e))))
+        (remains (old_frames GUEST f) (old_frames HEIGHT f) (old_frames RANGE f) g (old_frames KIND f) (other DrainingTable a)
+        (other DrainingPage b)))
 
-    pub not_free : (k ≡ DRAINING_TABLE) ⊎ (k ≡ DRAINING_PAGE) → is_free (kind_of l f) ≡ false
-    not_free (inl e) = known is_free DRAINING_TABLE false e (omega arith) (λ _. unfold kind_at in refl)
-    not_free (inr e) = known is_free DRAINING_PAGE false e (omega arith) (λ _. unfold kind_at in refl)
+    pub not_free : (k ≡ DrainingTable) ⊎ (k ≡ DrainingPage) → is_free (kind_of l f) ≡ false
+    not_free (inl e) = known is_free DrainingTable false e (omega arith) (λ _. unfold kind_at in refl)
+    not_free (inr e) = known is_free DrainingPage false e (omega arith) (λ _. unfold kind_at in refl)
 
-    pub release_one : {l' : List ℕ} → (k ≡ DRAINING_TABLE) ⊎ (k ≡ DRAINING_PAGE) → Changed (with_kind f free) l l' →
+    pub release_one : {l' : List ℕ} → (k ≡ DrainingTable) ⊎ (k ≡ DrainingPage) → Changed (with_kind f free) l l' →
         Changed (with_kind_by f (released g)) l l'
     release_one {l'} which c = turned _ free l' (to which) c
       where
-        to : (k ≡ DRAINING_TABLE) ⊎ (k ≡ DRAINING_PAGE) → released g (kind_of l f) ≡ free
-        to (inl y) = known (released g) DRAINING_TABLE free y (omega arith) (λ t. unfold kind_at released in rw t)
-        to (inr y) = known (released g) DRAINING_PAGE free y (omega arith) (λ t. unfold kind_at released in rw t)
+        to : (k ≡ DrainingTable) ⊎ (k ≡ DrainingPage) → released g (kind_of l f) ≡ free
+        to (inl y) = known (released g) DrainingTable free y (omega arith) (λ t. unfold kind_at released in rw t)
+        to (inr y) = known (released g) DrainingPage free y (omega arith) (λ t. unfold kind_at released in rw t)

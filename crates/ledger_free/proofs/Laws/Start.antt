@@ -6,10 +6,9 @@ use mathlib.Core.List.{List}
 use Prim.Native.Nat.{ℕ, ◌+◌, ◌*◌, ◌-◌, ◌≤◌, ◌<◌, ◌/◌, ◌%◌}
 use native.Mathlib.Omega.{arith}
 use lib.Dec.{ltb}
-use lib.ListN.{length, get_or, get_or-eq_default}
+use lib.ListN.{length, get_or, get_or-eq_default, replicate}
+use Rattle.std.proofs.lemmas.List.{length-replicate, get_or-replicate}
 use borrow.Author.Tests.{le-ltb, lt-ltb, le-leb, lt-leb}
-use Rattle.memory.specs.Word.{cleared_at}
-use Rattle.memory.proofs.Laws.Words.{cleared_length, cleared_byte}
 use Rattle.model.proofs.Laws.Base.{lt?}
 use Rattle.model.specs.Base.{upd, upd2}
 use Rattle.model.proofs.Laws.Base.{upd_at, upd_other}
@@ -26,24 +25,24 @@ use Rattle.ledger.proofs.Laws.Fields.{guest_low}
 use Rattle.ledger_free.specs.Moves.{placed}
 use Rattle.ledger_free.specs.Start.{LaidOut, kind_first, none, Filled, ram_stored}
 
-zero_cell : (o m : ℕ) (l : List ℕ) (j r : ℕ) → cell o m (cleared_at l 0 (length l)) j r ≡ 0
+zero_cell : (o m : ℕ) (l : List ℕ) (j r : ℕ) → cell o m (replicate (length l) 0) j r ≡ 0
 unfolding cell
-zero_cell o m l j r = go (ltb j ROW_WORDS && ltb r m)
+zero_cell o m l j r = none_or (ltb j ROW_WORDS && ltb r m) _ (at (length l) (o + ROW_WORDS * r + j) 0 refl)
   where
-    at : get_or (cleared_at l 0 (length l)) (o + ROW_WORDS * r + j) 0 ≡ 0
-    at = elim (lt? (o + ROW_WORDS * r + j) (length l)) [
-      | inl k ↦ cleared_byte l 0 (length l) (o + ROW_WORDS * r + j) (omega arith) (omega arith) (omega arith)
-      | inr k ↦ get_or-eq_default (cleared_at l 0 (length l)) 0 (let q = cleared_length l 0 (length l) in omega arith)
+    at : (n i x : ℕ) → x ≡ 0 → get_or (replicate n x) i 0 ≡ 0
+    at n i x e = elim (lt? i n) [
+      | inl k ↦ get_or-replicate n i x 0 k ∙ e
+      | inr k ↦ get_or-eq_default (replicate n x) 0 (let q = length-replicate n x in omega arith)
     ]
 
-    go : (x : Bool) → cond x (get_or (cleared_at l 0 (length l)) (o + ROW_WORDS * r + j) 0) 0 ≡ 0
-    go true = at
-    go false = refl
+    none_or : (b : Bool) (v : ℕ) → v ≡ 0 → cond b v 0 ≡ 0
+    none_or true v e = e
+    none_or false v e = refl
 
-pub filled_none : (n k : ℕ) (l l' : List ℕ) → length l ≡ words_for n → l' ≡ cleared_at l 0 (length l) → Filled n k 0 l'
+pub filled_none : (n k : ℕ) (l l' : List ℕ) → length l ≡ words_for n → l' ≡ replicate (length l) 0 → Filled n k 0 l'
 unfolding none
 filled_none n k l l' len e = rw e (record {
-  length_is = cleared_length l 0 (length l) ∙ len;
+  length_is = length-replicate (length l) 0 ∙ len;
   kinds = λ r h. absurd (omega arith);
   dense = λ r a h. absurd (omega arith);
   places = λ r h. absurd (omega arith);

@@ -1,27 +1,16 @@
 -- What drains for the guest is put back.
-use mathlib.Core.Logic.{inl, inr}
 use Rattle.ledger_free.proofs.Laws.Moves.{not_free, release_none, release_one}
 use Rattle.ledger_free.proofs.release.Goals as goal
-use Rattle.ledger_free.proofs.release.Goals.{else-k-ne-DRAINING_TABLE, then-k-ne-DRAINING_TABLE+else-k-ne-DRAINING_PAGE}
 
-pub returns-then-k-ne-DRAINING_PAGE : goal.returns-then-k-ne-DRAINING_PAGE
-returns-then-k-ne-DRAINING_PAGE c = release_none _ c.requires.ledger_sound _ c.requires.f_bound _ _ c.kind_for-k.ensures
-    c.if-k-ne-DRAINING_TABLE.true c.if-k-ne-DRAINING_PAGE.true
+pub put_back-requires-clause-f_value : goal.put_back-requires-clause-f_value
+put_back-requires-clause-f_value c =
+    not_free _ c.requires.ledger_sound _ c.requires.f_bound _ _ _ c.kind_for.ensures c.from-kind.ensures c.in-DrainingTable.is
 
-pub put_back-requires : goal.put_back-requires
-put_back-requires c = record {
-  ledger_sound = c.requires.ledger_sound;
-  f_bound = c.requires.f_bound;
-  f_value = not_free _ c.requires.ledger_sound _ c.requires.f_bound _ _ c.kind_for-k.ensures
-      (elim c.if-k-ne-DRAINING_TABLE.branch [
-        | then-k-ne-DRAINING_TABLE+else-k-ne-DRAINING_PAGE w ↦ inr w.if-k-ne-DRAINING_PAGE.false
-        | else-k-ne-DRAINING_TABLE w ↦ inl w.if-k-ne-DRAINING_TABLE.false
-      ]);
-}
+pub returns-in-DrainingTable : goal.returns-in-DrainingTable
+returns-in-DrainingTable c =
+    release_one _ c.requires.ledger_sound _ c.requires.f_bound _ _ _ c.kind_for.ensures c.from-kind.ensures c.in-DrainingTable.is
+    c.put_back.ensures
 
-pub returns : goal.returns
-returns c = release_one _ c.requires.ledger_sound _ c.requires.f_bound _ _ c.kind_for-k.ensures
-    (elim c.if-k-ne-DRAINING_TABLE.branch [
-      | then-k-ne-DRAINING_TABLE+else-k-ne-DRAINING_PAGE w ↦ inr w.if-k-ne-DRAINING_PAGE.false
-      | else-k-ne-DRAINING_TABLE w ↦ inl w.if-k-ne-DRAINING_TABLE.false
-    ]) c.put_back.ensures
+pub returns-in_default : goal.returns-in_default
+returns-in_default c = release_none _ c.requires.ledger_sound _ c.requires.f_bound _ _ _ c.kind_for.ensures c.from-kind.ensures
+    c.in_default.not-DrainingTable c.in_default.not-DrainingPage

@@ -1,13 +1,17 @@
 -- The laws of words in memory: what a store changes, and what it leaves.
-use Prim.Native.Nat.{ℕ, zero, suc, ◌+◌, ◌*◌, ◌/◌, ◌%◌, ◌^◌, ◌<◌, ◌≤◌}
-use mathlib.Core.Path.{◌≡◌, refl, ◌∙◌}
-use mathlib.Core.List.{List}
+use Prim.Native.Nat.{ℕ, zero, suc, ◌+◌, ◌-◌, ◌*◌, ◌/◌, ◌%◌, ◌^◌, ◌<◌, ◌≤◌}
+use mathlib.Core.Path.{◌≡◌, refl, sym, ap, ◌∙◌}
+use mathlib.Core.List.{List, []}
 use mathlib.Core.Logic.{inl, inr}
-use native.Mathlib.Numerals.{add-one}
+use native.Mathlib.Numerals.{add-one, unary_clauses}
 use native.Mathlib.Nat.{eq-or-lt_of_le, le_of_suc-le-suc, not-suc-le-zero, add-zero, zero-add, div-one}
 use native.Mathlib.Omega.{arith}
-use lib.ListN.{take, drop, get_or, set, length, length-set}
-use lib.Seq.{get_or-take, get_or-drop, get_or-set_same, get_or-set_other}
+use borrow.Rule.Slice.PartMut.{put_mid}
+use lib.ListN.{take, drop, get_or, set, length, length-set, replicate, length-replicate}
+use lib.Seq.{paste, get_or-take, get_or-drop, get_or-set_same, get_or-set_other}
+use Rattle.std.specs.Int.{w64, to_le_bytes}
+use Rattle.std.proofs.lemmas.List.Edits.{sets, sets-eq, paste_none, fill_from_more}
+use Rattle.std.proofs.lemmas.Slice.{put_mid-paste}
 use Rattle.memory.specs.Word.{word_at, stored_at, cleared_at}
 use Rattle.memory.proofs.Laws.Bytes.{word_bytes, bytes_agree, bytes_made}
 
@@ -106,3 +110,28 @@ pub word_of_part : (m : List ℕ) (at n : ℕ) → 8 ≤ n → word_at (take n (
 word_of_part m at n room =
     rw (word_bytes _ 0, word_bytes m) (bytes_agree 7 (take n (drop at m)) m 0 at
     (λ i p. simp zero-add (get_or-take n (drop at m) i 0 (omega arith) ∙ get_or-drop at m i 0)))
+
+-- the eight bytes of v put into m one by one are a store of v
+stored_sets : (m : List ℕ) (at v : ℕ) → sets m at (to_le_bytes w64 v) ≡ stored_at m at v
+unfolding stored_at
+stored_sets m at v = simp unary_clauses
+
+pub stored_paste : {bytes : List ℕ} {n : ℕ} (m : List ℕ) (at v : ℕ) → at + 8 ≤ length m → bytes ≡ to_le_bytes w64 v → n ≡ 8
+    → paste m at bytes n ≡ stored_at m at v
+stored_paste m at v room b e =
+    rw (b, e) (sym (sets-eq (to_le_bytes w64 v) m at room) ∙ stored_sets m at v)
+
+-- zeros put into m are a part cleared
+cleared_paste : (m : List ℕ) (at n : ℕ) → at + n ≤ length m → cleared_at m at n ≡ paste m at (replicate n 0) n
+unfolding cleared_at
+cleared_paste m at zero room = paste_none m at []
+cleared_paste m at (suc n) room =
+    ap (λ (l : List ℕ). set l (at + n) 0) (cleared_paste m at n (omega arith))
+    ∙ simp add-one at (fill_from_more m at n 0 (omega arith))
+
+pub put_zeros : {zeros : List ℕ} {k : ℕ} (m : List ℕ) (at n : ℕ) → at + n ≤ length m → k ≡ n → zeros ≡ replicate k 0
+    → put_mid at (at + n - at) m zeros ≡ cleared_at m at n
+put_zeros {zeros} {k} m at n room len e =
+    put_mid-paste at (at + n - at) m zeros (replicate n 0) n (e ∙ ap (λ (i : ℕ). replicate i 0) len) (omega arith)
+    (sym (length-replicate n 0))
+    ∙ sym (cleared_paste m at n room)

@@ -1,39 +1,17 @@
--- Eight stores; none changes the length.
-use lib.ListN.{length-set}
-use Rattle.memory.specs.Word.{stored_at}
+-- After i turns the first i bytes lie in their place.
+use mathlib.Core.Path.{◌∙◌, ap}
+use lib.ListN.{length}
 use native.Mathlib.Omega.{arith}
+use Rattle.std.proofs.lemmas.List.Edits.{paste_none, paste_more}
+use Rattle.memory.proofs.Laws.Words.{stored_paste}
 use Rattle.memory.proofs.store_word.Goals as goal
 
-pub bounds-m-at-2 : goal.bounds-m-at-2
-bounds-m-at-2 c = simp length-set (omega arith)
+pub loop-i-init : goal.loop-i-init
+loop-i-init c = paste_none c.args.m.now c.args.at c.to_le_bytes.result
 
-pub bounds-m-at-3 : goal.bounds-m-at-3
-bounds-m-at-3 c = simp length-set (omega arith)
-
-pub bounds-m-at-4 : goal.bounds-m-at-4
-bounds-m-at-4 c = simp length-set (omega arith)
-
-pub bounds-m-at-5 : goal.bounds-m-at-5
-bounds-m-at-5 c = simp length-set (omega arith)
-
-pub bounds-m-at-6 : goal.bounds-m-at-6
-bounds-m-at-6 c = simp length-set (omega arith)
-
-pub bounds-m-at-7 : goal.bounds-m-at-7
-bounds-m-at-7 c = simp length-set (omega arith)
-
-pub bounds-m-at-8 : goal.bounds-m-at-8
-bounds-m-at-8 c = simp length-set (omega arith)
+pub loop-i-preserved : goal.loop-i-preserved
+loop-i-preserved c = simp c.loop-i.invariant
+    (paste_more c.args.m.now c.args.at c.to_le_bytes.result c.loop-i.i 0 (omega arith) (omega (arith, ap length c.to_le_bytes.ensures)))
 
 pub returns : goal.returns
-unfolding stored_at
-returns c = simp (
-  c.low.ensures,
-  c.low-2.ensures,
-  c.low-3.ensures,
-  c.low-4.ensures,
-  c.low-5.ensures,
-  c.low-6.ensures,
-  c.low-7.ensures,
-  c.low-8.ensures,
-)
+returns c = c.loop-i.invariant ∙ stored_paste c.args.m.now c.args.at c.args.v c.requires c.to_le_bytes.ensures (omega arith)

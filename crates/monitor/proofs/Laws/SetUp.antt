@@ -1,12 +1,12 @@
 -- Laws of specs/SetUp.
 use mathlib.Core.Path.{◌≡◌, refl, ap}
-use mathlib.Core.Bool.{Bool, true, false, ◌&&◌}
+use mathlib.Core.Bool.{Bool, true, ◌&&◌}
 use mathlib.Core.List.{List}
 use Prim.Native.Nat.{ℕ, ◌+◌, ◌*◌, ◌<◌, ◌≤◌, ◌/◌}
 use native.Mathlib.Omega.{arith}
 use lib.Dec.{eqb, ltb}
 use lib.ListN.{length}
-use borrow.Author.Tests.{ltb-true, eqb-true, lt-ltb, le-ltb, eq-eqb}
+use borrow.Author.Tests.{ltb-true, eqb-true, lt-ltb, eq-eqb}
 use Rattle.memory.specs.Ram.{frame_bytes, most_frames, ram_fits}
 use Rattle.memory.proofs.Laws.Ram.{fits_so}
 use Rattle.model.proofs.Laws.Base.{and_true}
@@ -16,7 +16,7 @@ use Rattle.model.proofs.Invariant.Holds.{started_core}
 use Rattle.ledger.specs.Layout.{words_for, size_of, word_of, state_in}
 use Rattle.ledger.specs.Columns.{room_for_frames}
 use Rattle.ledger_free.specs.Start.{LaidOut}
-use Rattle.monitor_contract.proofs.Laws.Answers.{refused_so, stops, goes_on, through, and_left, and_right, and_both}
+use Rattle.monitor_contract.proofs.Laws.Answers.{goes_on, through, and_both}
 use Rattle.monitor.specs.SetUp.{slices_fit, setting_up, SetUp}
 
 pub few_enough : (b n : ℕ) → ram_fits b n ≡ true → n ≤ most_frames
@@ -33,19 +33,6 @@ module _ (b n k : ℕ) (m l : List ℕ) where
 
   abbrev All : Bool
   All = Slices && ram_fits b n && ltb k n
-
-  unfit : All ≡ false → 4 ≡ refusal (setting_up b n k m l)
-  unfolding set_up
-  unfit e = stops All 4 _ e
-
-  pub bad_slices : Slices ≡ false → 4 ≡ refusal (setting_up b n k m l)
-  bad_slices e = unfit (and_left _ _ (and_left _ _ e))
-
-  pub bad_place : ram_fits b n ≡ false → 4 ≡ refusal (setting_up b n k m l)
-  bad_place e = unfit (and_left _ _ (and_right Slices (ram_fits b n) e))
-
-  pub none_left : n ≤ k → 4 ≡ refusal (setting_up b n k m l)
-  none_left e = unfit (and_right (Slices && ram_fits b n) (ltb k n) (le-ltb k n e))
 
   pub fits_all : Slices ≡ true → ram_fits b n ≡ true → k < n → 0 ≡ refusal (setting_up b n k m l)
   unfolding set_up
@@ -92,6 +79,3 @@ module _ (b n k : ℕ) (m l : List ℕ) where
             let e : size_of l' ≡ n = unfold state_in started in ap (λ (s : State). s.size) (x.state m) in
             let a = lengths.0 in
             omega arith
-
-  pub set_up_refused : (r : ℕ) → r ≡ refusal (setting_up b n k m l) → (r ≡ 0 → ⊥) → SetUp b n k m l r l
-  set_up_refused r e ne = record { sound = λ z. absurd (ne z); outcome = refused_so m l (setting_up b n k m l) r e ne }

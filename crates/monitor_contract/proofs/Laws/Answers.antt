@@ -5,38 +5,21 @@ use mathlib.Core.List.{List}
 use Prim.Native.Nat.{ℕ, ◌<◌}
 use native.Mathlib.Omega.{arith}
 use lib.ListN.{length}
-use Rattle.model.specs.State.{State, KindOfFrame}
-use Rattle.model.specs.Operations.{Out, refuse, done, refusal, check}
+use Rattle.model.specs.State.{State}
+use Rattle.model.specs.Operations.{Out, done, refusal, check}
 use Rattle.model.specs.Cache.{Caches}
 use Rattle.model.specs.Invariant.{Core, Kept}
 use Rattle.model.proofs.Invariant.Answer.{Then, Good, core_alone, then_is}
 use Rattle.ledger.specs.Layout.{size_of, state_in, state_of}
-use Rattle.ledger.specs.Fields.{remade, with_kind}
-use Rattle.ledger.specs.LedgerSound.{LedgerSound, Changed, Taken}
+use Rattle.ledger.specs.LedgerSound.{LedgerSound, Changed}
 use Rattle.ledger.specs.Sound.{Sound}
-use Rattle.monitor_contract.specs.Answers.{Outcome, Operation, out, Answers, Done}
+use Rattle.monitor_contract.specs.Answers.{Operation, out, Answers, Done}
 
--- check, then do
-pub refused_so : (m l : List ℕ) (x : Out) (r : ℕ) → r ≡ refusal x → (r ≡ 0 → ⊥) → Outcome x m l r m l
-refused_so m l (refuse k) r e ne = (e, refl, refl)
-refused_so m l (done s) r e ne = absurd (ne e)
+-- the answer of what is done
+pub answered : {o : Operation} {m l m' l' : List ℕ} → Done o m l m' l' → Answers o m l 0 m' l'
+answered d = record { sound = d.sound; outcome = rw d.made (refl, refl) }
 
-module _ {o : Operation} {m l : List ℕ} where
-  pub refused : {r : ℕ} → Sound m l → r ≡ refusal (out o m l) → (r ≡ 0 → ⊥) → Answers o m l r m l
-  refused {r} s e ne = record { sound = s; outcome = refused_so m l (out o m l) r e ne }
-
-  pub answered : {m' l' : List ℕ} → Done o m l m' l' → Answers o m l 0 m' l'
-  answered d = record { sound = d.sound; outcome = rw d.made (refl, refl) }
-
-  -- the answer, where a check that makes a plan has stopped
-  pub plan_refused : {k : ℕ} → Sound m l → out o m l ≡ refuse k → Answers o m l k m l
-  plan_refused s e = record { sound = s; outcome = rw e (refl, refl, refl) }
-
--- a check, as the code makes it: it stops here, or goes on
-pub stops : (b : Bool) (k : ℕ) (o : Out) → b ≡ false → k ≡ refusal (check b k o)
-unfolding check
-stops b k o e = rw e
-
+-- a check, as the code makes it: it goes on
 pub goes_on : {r : ℕ} (b : Bool) (k : ℕ) (o : Out) → b ≡ true → r ≡ refusal o → r ≡ refusal (check b k o)
 unfolding check
 goes_on b k o e h = rw e h
@@ -84,16 +67,6 @@ still_low {φ} {l} {l'} c keeps f h = let e : size_of l' ≡ size_of l = same in
     same : size_of l' ≡ size_of l
     same = unfold state_in in ap (λ (x : State). x.size) (c.state l) ∙ keeps (state_of l l)
 
-pub taken_low : {t : ℕ} {k : KindOfFrame} {l l' : List ℕ} → Taken t k l l' → (f : ℕ) → f < size_of l → f < size_of l'
-taken_low {t} {k} x f h = still_low x.changes (λ s. unfold with_kind remade in refl) f h
-
 -- tests, as the code makes them
-pub and_left : (a b : Bool) → a ≡ false → (a && b) ≡ false
-and_left a b e = rw e
-
-pub and_right : (a b : Bool) → b ≡ false → (a && b) ≡ false
-and_right true b e = e
-and_right false b e = refl
-
 pub and_both : (a b : Bool) → a ≡ true → b ≡ true → (a && b) ≡ true
 and_both a b e f = rw (e, f)

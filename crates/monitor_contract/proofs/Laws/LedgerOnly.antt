@@ -1,4 +1,4 @@
--- Laws of specs/Quiet.
+-- Laws of specs/LedgerOnly.
 use mathlib.Core.Path.{◌≡◌, refl, ◌∙◌}
 use mathlib.Core.List.{List}
 use Prim.Native.Nat.{ℕ}

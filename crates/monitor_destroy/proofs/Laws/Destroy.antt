@@ -3,18 +3,16 @@ use mathlib.Core.Path.{◌≡◌, refl, sym, ap, ◌∙◌}
 use mathlib.Core.Bool.{Bool, true, false, true≢false}
 use mathlib.Core.Logic.{inl, inr}
 use mathlib.Core.List.{List}
-use Prim.Native.Nat.{ℕ, ◌+◌, ◌<◌}
+use Prim.Native.Nat.{ℕ, zero, suc, ◌<◌}
 use native.Mathlib.Omega.{arith}
-use native.Mathlib.Numerals.{add-one}
-use lib.Dec.{eqb}
 use Rattle.model.proofs.Laws.Base.{bool?, all_true}
 use Rattle.model.specs.Base.{upd, all}
-use Rattle.model.specs.State.{State, is_guest, is_page, is_page_of, total}
+use Rattle.model.specs.State.{State, is_guest}
 use Rattle.model.specs.Changes.{zeros, drained, without_guest}
 use Rattle.model.specs.Operations.{done, refusal, check, unshared, destroy}
 use Rattle.model.proofs.Invariant.Destroy.{destroy_good}
 use Rattle.ledger.specs.Columns.{GUEST_ROWS}
-use Rattle.ledger.specs.Layout.{size_of, kind_of, shared_of, exists_of, state_in, state_of}
+use Rattle.ledger.specs.Layout.{size_of, exists_of, state_in, state_of}
 use Rattle.ledger.specs.Fields.{remade, with_existence, with_dirt}
 use Rattle.ledger.specs.LedgerSound.{Changed}
 use Rattle.ledger.proofs.Laws.Fields.{guest_low, upd_self}
@@ -26,37 +24,14 @@ use Rattle.monitor_contract.specs.EachFrame.{turned_below, all_turned, with_rows
 use Rattle.monitor_contract.proofs.Laws.EachFrame.{turned_all}
 use Rattle.monitor_destroy.specs.Destroy.{destroying}
 
--- a test at every number below n: so far, and at one where it fails
-pub all_none : (b : ℕ → Bool) → all 0 b ≡ true
+-- a test at every number below n: it holds at each; it fails at one
+pub all_holds : (n : ℕ) (b : ℕ → Bool) → ((k : ℕ) → k < n → b k ≡ true) → all n b ≡ true
 unfolding all
-all_none b = refl
+all_holds zero b h = refl
+all_holds (suc n) b h = rw (all_holds n b (λ k l. h k (omega arith)), h n (omega arith))
 
-pub all_more : (n : ℕ) (b : ℕ → Bool) → all n b ≡ true → b n ≡ true → all (n + 1) b ≡ true
-unfolding all
-all_more n b e q = rw (add-one n) (rw (e, q))
-
-pub all_false : (n : ℕ) (b : ℕ → Bool) (k : ℕ) → k < n → b k ≡ false → all n b ≡ false
-all_false n b k h e = elim (bool? (all n b)) [ inl t ↦ absurd (true≢false (sym (all_true n b t k h) ∙ e)) | inr t ↦ t ]
-
--- of one frame: it is no page; it is shared with g; it is another's; it is g's
-module _ (m l : List ℕ) (g f : ℕ) where
-  pub no_page : is_page (kind_of l f) ≡ false → unshared (state_of m l) f g ≡ true
-  unfolding unshared state_in
-  no_page e = rw e
-
-  module _ (p : is_page (kind_of l f) ≡ true) where
-    pub with_it : eqb (shared_of l f g) 0 ≡ false → unshared (state_of m l) f g ≡ false
-    unfolding unshared state_in
-    with_it e = rw (p, e)
-
-    module _ (e : eqb (shared_of l f g) 0 ≡ true) where
-      pub of_another : is_page_of (kind_of l f) g ≡ false → unshared (state_of m l) f g ≡ true
-      unfolding unshared state_in
-      of_another q = rw (p, e, q)
-
-      pub of_it : is_page_of (kind_of l f) g ≡ true → unshared (state_of m l) f g ≡ eqb (total (shared_of l f)) 0
-      unfolding unshared state_in
-      of_it q = rw (p, e, q)
+pub all_fails : (n : ℕ) (b : ℕ → Bool) (k : ℕ) → k < n → b k ≡ false → all n b ≡ false
+all_fails n b k h e = elim (bool? (all n b)) [ inl t ↦ absurd (true≢false (sym (all_true n b t k h) ∙ e)) | inr t ↦ t ]
 
 module _ {m l : List ℕ} (ok : Sound m l) (g : ℕ) (h : refusal (destroy (state_of m l) g) ≡ 0) where
   exists_here : exists_of l g ≡ true

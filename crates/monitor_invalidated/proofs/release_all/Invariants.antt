@@ -1,14 +1,8 @@
-use mathlib.Core.Path.{◌≡◌}
-use Prim.Native.Nat.{◌-◌, ◌≤◌}
-use lib.ListN.{length}
+-- After f turns, the first f frames are released.
 use Rattle.model.specs.Changes.{released}
 use Rattle.ledger.specs.LedgerSound.{Changed}
 use Rattle.monitor_contract.specs.EachFrame.{turned_below, same}
 use Rattle.monitor_invalidated.proofs.release_all.Given as goal
 
 abbrev pub invariant-loop-f : goal.invariant-loop-f
-invariant-loop-f l = (l.f ≤ l.n) × Changed (turned_below (released l.g) same l.f) l.initial.ledger l.ledger ×
-    (length l.ledger ≡ length l.initial.ledger)
-
-abbrev pub decreases-loop-f : goal.decreases-loop-f
-decreases-loop-f l = l.n - l.f
+invariant-loop-f l = Changed (turned_below (released l.g) same l.f) l.initial.ledger l.ledger

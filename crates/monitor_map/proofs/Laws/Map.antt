@@ -1,17 +1,17 @@
 -- Laws of specs/Map.
 use mathlib.Core.Path.{◌≡◌, refl, sym, ap, ◌∙◌}
-use mathlib.Core.Bool.{Bool, true, false, not, ◌&&◌, ◌||◌}
+use mathlib.Core.Bool.{Bool, true, false, not}
 use mathlib.Core.Logic.{inl, inr}
 use mathlib.Core.Option.{some}
 use mathlib.Core.List.{List}
-use Prim.Native.Nat.{ℕ, suc, ◌+◌, ◌-◌, ◌<◌, ◌≤◌, ◌/◌, ◌%◌}
+use Prim.Native.Nat.{ℕ, suc, ◌+◌, ◌<◌, ◌≤◌, ◌/◌, ◌%◌}
 use native.Mathlib.Omega.{arith}
-use lib.Dec.{eqb, ltb, leb}
+use lib.Dec.{ltb, leb}
 use lib.ListN.{length}
-use borrow.Author.Tests.{le-leb, lt-leb, lt-ltb, le-ltb, ne_eqb}
+use borrow.Author.Tests.{le-leb, lt-leb, lt-ltb, le-ltb}
 use Rattle.model.proofs.Laws.Base.{lt?}
 use Rattle.model.specs.Base.{upd2}
-use Rattle.model.specs.State.{WRITE, EXECUTE, NOTHING, WRITING, State, page, page_count, is_page, is_page_of, free_frames}
+use Rattle.model.specs.State.{NOTHING, WRITING, State, page, page_count, free_frames}
 use Rattle.model.specs.Entry.{page_entry}
 use Rattle.model.specs.Translate.{mapped, missing}
 use Rattle.model.specs.Changes.{Grown, grow, with_page, with_mapping}
@@ -21,7 +21,8 @@ use Rattle.model.proofs.Invariant.Core.{low}
 use Rattle.model.proofs.Invariant.Answer.{core_alone, then_is, may_is}
 use Rattle.model.proofs.Invariant.MapUnmap.{address_low, map_good}
 use Rattle.ledger.specs.Columns.{SHARE_UNIT}
-use Rattle.ledger.specs.Layout.{size_of, first_of, exists_of, kind_of, shared_of, count_of, word_of, pick_of, state_in, state_of}
+use Rattle.ledger.specs.Layout.{size_of, first_of, exists_of, kind_of, count_of, word_of, pick_of, state_in, state_of}
+use Rattle.ledger.specs.Kinds.{known_share}
 use Rattle.ledger.specs.Fields.{remade, with_count, with_words}
 use Rattle.ledger.specs.LedgerSound.{Changed}
 use Rattle.ledger.proofs.Laws.Words.{state_words}
@@ -34,53 +35,21 @@ use Rattle.monitor_tables.proofs.Laws.Way.{ended_missing}
 use Rattle.model.specs.Machine.{Map, answer}
 use Rattle.model.proofs.Invariant.Effects.{rows}
 use Rattle.model.proofs.Invariant.RoundTrip.{after_map}
-use Rattle.monitor_contract.specs.Found.{Translates, Finds, Nonzero}
-use Rattle.monitor_contract.proofs.Laws.Found.{finds_asked, tested, was_done}
-use Rattle.monitor_tables.specs.NewTable.{Growing, Made}
-use Rattle.monitor_map.specs.Map.{mapping, six, asked, allows, Granted, Ready}
+use Rattle.monitor_contract.specs.declared.refusals.Refusal.{Refusal}
+use Rattle.monitor_contract.specs.Refusals.{refusal_number}
+use Rattle.monitor_contract.proofs.Laws.Refusals.{positive}
+use Rattle.monitor_contract.specs.Found.{Translates, Finds}
+use Rattle.monitor_contract.proofs.Laws.Found.{finds_asked}
+use Rattle.monitor_tables.specs.NewTable.{Growing}
+use Rattle.monitor_map.specs.Map.{mapping, six, asked, first_refusal, Granted, Ready}
 
-pub allows_own : (l : List ℕ) (f g r : ℕ) → is_page_of (kind_of l f) g ≡ true → true ≡ allows l f g r
-allows_own l f g r e = rw e
-
-pub allows_none : (l : List ℕ) (f g r : ℕ) → is_page_of (kind_of l f) g ≡ false → is_page (kind_of l f) ≡ false → false ≡ allows l f g r
-allows_none l f g r e q = rw (e, q)
-
-pub allows_shared : (l : List ℕ) (f g r : ℕ) → is_page_of (kind_of l f) g ≡ false → is_page (kind_of l f) ≡ true → (how : ℕ) →
-    how ≡ shared_of l f g → (b : Bool) → b ≡ shares how r → b ≡ allows l f g r
-allows_shared l f g r e q how z b y = rw (e, q) (y ∙ ap (λ (x : ℕ). shares x r) z)
-
--- the last of the rights
-pub rights_last : (r : ℕ) → (r ≡ 1 → ⊥) → (r ≡ 3 → ⊥) → (r ≡ 5 → ⊥) → eqb r 7 ≡ is_rights r
-rights_last r a b c = rw (ne_eqb r 1 a, ne_eqb r 3 b, ne_eqb r 5 c)
-
--- the tests of a share
-module _ (how r : ℕ) where
-  pub shares_none : how ≡ NOTHING → false ≡ shares how r
-  unfolding shares
-  shares_none e = rw (le-ltb NOTHING how (omega arith))
-
-  pub shares_run : EXECUTE ≤ r → false ≡ shares how r
-  unfolding shares
-  shares_run e = rw (le-ltb r EXECUTE e) (go (ltb NOTHING how))
-    where
-      go : (b : Bool) → false ≡ (b && false && (ltb r WRITE || leb WRITING how))
-      go true = refl
-      go false = refl
-
-  pub shares_read : (how ≡ NOTHING → ⊥) → r < WRITE → true ≡ shares how r
-  unfolding shares
-  shares_read ne k = let p : 0 < how = some_shared ne in let q : r < EXECUTE =
-      omega arith in rw (lt-ltb NOTHING how p, lt-ltb r EXECUTE q, lt-ltb r WRITE k)
-    where
-      some_shared : (how ≡ NOTHING → ⊥) → 0 < how
-      some_shared ne = elim (lt? 0 how) [ inl y ↦ y | inr y ↦ absurd (ne (omega arith)) ]
-
-  pub shares_write : (how ≡ NOTHING → ⊥) → r < EXECUTE → WRITE ≤ r → leb WRITING how ≡ shares how r
-  unfolding shares
-  shares_write ne k q = let p : 0 < how = some_shared ne in rw (lt-ltb NOTHING how p, lt-ltb r EXECUTE k, le-ltb r WRITE q)
-    where
-      some_shared : (how ≡ NOTHING → ⊥) → 0 < how
-      some_shared ne = elim (lt? 0 how) [ inl y ↦ y | inr y ↦ absurd (ne (omega arith)) ]
+-- what Shared keeps of a stored number is all that the test looks at
+pub shares_known : (n r : ℕ) → shares (known_share n) r ≡ shares n r
+unfolding shares
+shares_known n r = elim (lt? WRITING n) [
+  | inl l ↦ rw (lt-ltb WRITING n l, lt-ltb NOTHING n (omega arith), le-leb WRITING n (omega arith)) refl
+  | inr l ↦ rw (le-ltb WRITING n l) refl
+]
 
 stuck : (b1 b2 b3 b4 b5 b6 : Bool) (s : State) (o : Out) → (refusal (six b1 b2 b3 b4 b5 b6 (done s)) ≡ 0 → ⊥) →
     six b1 b2 b3 b4 b5 b6 o ≡ refuse (refusal (six b1 b2 b3 b4 b5 b6 (done s)))
@@ -125,13 +94,14 @@ module _ (s : State) (f g a r : ℕ) where
         map_done z = rw (x.exists, x.clean, x.address, x.rights, x.frame, x.may, e, z)
 
 -- the plan
-module _ {m l : List ℕ} (ok : Sound m l) (f g a r k : ℕ) (e : k ≡ refusal (asked (state_of m l) f g a r (done (state_of m l)))) where
-  pub plan_asked : (k ≡ 0 → ⊥) → map (state_of m l) f g a r (pick_of l) ≡ refuse k
-  plan_asked ne = map_refused (state_of m l) f g a r (pick_of l) k e ne
+module _ {m l : List ℕ} (ok : Sound m l) (f g a r : ℕ) where
+  pub plan_asked : (refusal : Refusal) → refusal_number refusal ≡ first_refusal (state_of m l) f g a r →
+      map (state_of m l) f g a r (pick_of l) ≡ refuse (refusal_number refusal)
+  plan_asked x e = map_refused (state_of m l) f g a r (pick_of l) (refusal_number x) e (positive x)
 
-  module _ (z : k ≡ 0) where
+  module _ (e : 0 ≡ first_refusal (state_of m l) f g a r) where
     all_granted : Granted (state_of m l) f g a r
-    all_granted = granted (state_of m l) f g a r (sym e ∙ z)
+    all_granted = granted (state_of m l) f g a r (sym e)
 
     pub plan_guest : exists_of l g ≡ true
     plan_guest = unfold state_in in all_granted.exists
@@ -161,8 +131,6 @@ pub record Filling (m₀ l₀ : List ℕ) (f g v : ℕ) (m l : List ℕ) (h t : 
   pub grows : grow 3 (state_of m₀ l₀) g ((state_of m₀ l₀).root g) v (pick_of l₀) ≡ grow h (state_of m l) g t v (pick_of l)
   pub owner : ℕ
   pub page_is : (state_of m l).kind f ≡ page owner
-  pub ram_same : length m ≡ length m₀
-  pub ledger_same : length l ≡ length l₀
 
 module _ {m₀ l₀ : List ℕ} (ok : Sound m₀ l₀) {f g a r h₀ t₀ : ℕ} (ready : Ready (state_of m₀ l₀) f g a r h₀ t₀) where
   a_page : (o : ℕ) × ((state_of m₀ l₀).kind f ≡ page o)
@@ -185,22 +153,9 @@ module _ {m₀ l₀ : List ℕ} (ok : Sound m₀ l₀) {f g a r h₀ t₀ : ℕ}
     grows = ready.ended.reached.grows (pick_of l₀);
     owner = a_page.0;
     page_is = a_page.1;
-    ram_same = refl;
-    ledger_same = refl;
   }
 
   module _ {m l : List ℕ} {h t : ℕ} (x : Filling m₀ l₀ f g (a / 4096) m l h t) where
-    pub fill_more : {u : ℕ} {m' l' : List ℕ} → Made m l g (a / 4096) h t u m' l' → length m' ≡ length m → length l' ≡ length l →
-        Filling m₀ l₀ f g (a / 4096) m' l' (h - 1) u
-    fill_more y e q = record {
-      growing = y.growing;
-      grows = x.grows ∙ y.grows;
-      owner = x.owner;
-      page_is = y.pages_stay f x.owner x.page_is;
-      ram_same = e ∙ x.ram_same;
-      ledger_same = q ∙ x.ledger_same;
-    }
-
     pub fill_low : f < size_of l
     fill_low = unfold state_in in low (state_of m l) x.growing.sound.core f (page x.owner) x.page_is refl
 
@@ -210,7 +165,7 @@ module _ {m₀ l₀ : List ℕ} (ok : Sound m₀ l₀) {f g a r h₀ t₀ : ℕ}
         let fits = count_fits m l x.growing.sound f x.owner g p in
         omega arith
 
-    pub map_end : h ≤ 0 → (first y k : ℕ) (m' l' : List ℕ) → first ≡ first_of l → y ≡ page_entry first f r →
+    pub map_end : h < 1 → (first y k : ℕ) (m' l' : List ℕ) → first ≡ first_of l → y ≡ page_entry first f r →
         word_of m' ≡ upd2 (word_of m) t (a / 4096 % 512) y → length m' ≡ length m →
         k ≡ count_of l f g → Changed (with_count f g (k + 1)) l l' → Done (mapping f g a r) m₀ l₀ m' l'
     map_end z first y k m' l' ef ey ew len ek c = record {
@@ -274,12 +229,3 @@ module _ {m l m' l' : List ℕ} (ok : Sound m l) where
     pub map_found : Finds g a (some (f, r)) m' l'
     map_found = finds_asked m' l' d.sound g a (some (f, r))
         (after_map (state_of m l) ok.core f g a r (pick_of l) (chosen l ok.ledger_sound m) (state_of m' l') d.made)
-
-pub map_nonzero : (s : State) (f g a r : ℕ) (pick : ℕ → ℕ) → Nonzero (map s f g a r pick)
-unfolding map
-map_nonzero s f g a r pick =
-    tested (s.exists g) 5 _ (omega arith) (tested (not (s.dirty g)) 14 _ (omega arith)
-    (tested (page_address a) 7 _ (omega arith) (tested (is_rights r) 8 _ (omega arith)
-    (tested (ltb f s.size) 4 _ (omega arith) (tested (may_map s f g r) 9 _ (omega arith)
-    (tested (not (mapped s g (a / 4096))) 10 _ (omega arith)
-    (tested (leb (missing s g (a / 4096)) (free_frames s)) 3 _ (omega arith) (was_done _))))))))

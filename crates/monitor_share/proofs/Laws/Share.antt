@@ -1,8 +1,8 @@
 -- Laws of specs/Share.
 use mathlib.Core.Path.{◌≡◌, refl, sym, ap, ◌∙◌}
-use mathlib.Core.Bool.{Bool, true, false, not, ◌&&◌, ◌||◌, cond}
+use mathlib.Core.Bool.{true, not, ◌&&◌, ◌||◌}
 use mathlib.Core.List.{List}
-use Prim.Native.Nat.{ℕ, ◌≤◌}
+use Prim.Native.Nat.{ℕ}
 use native.Mathlib.Omega.{arith}
 use lib.Dec.{eqb, ltb}
 use borrow.Author.Tests.{ltb-true}
@@ -10,7 +10,7 @@ use Rattle.model.specs.Base.{upd, upd2}
 use Rattle.model.proofs.Laws.Base.{and_true}
 use Rattle.model.specs.State.{State, KindOfFrame, page, is_page_of}
 use Rattle.model.specs.Changes.{becomes}
-use Rattle.model.specs.Operations.{done, refusal, check, narrows, share, unshare}
+use Rattle.model.specs.Operations.{done, refusal, narrows, share, unshare}
 use Rattle.model.specs.Cache.{Caches}
 use Rattle.model.specs.Invariant.{Kept}
 use Rattle.model.proofs.Invariant.Answer.{Good}
@@ -22,36 +22,12 @@ use Rattle.ledger.proofs.Laws.Fields.{upd_self}
 use Rattle.ledger.specs.LedgerSound.{Changed}
 use Rattle.ledger.specs.Sound.{Sound}
 use Rattle.ledger.proofs.Laws.Sound.{guest_there}
+use Rattle.ledger.proofs.Laws.Kinds.{known_nothing, known_writing}
 use Rattle.monitor_contract.specs.Answers.{Operation, out, Done}
 use Rattle.monitor_contract.proofs.Laws.Answers.{through}
 use Rattle.monitor_contract.specs.LedgerOnly.{Owned}
 use Rattle.monitor_contract.proofs.Laws.LedgerOnly.{changed_so}
-use Rattle.monitor_share.specs.Share.{sharing, unsharing, held_back, extent}
-
-pub extent_low : (w r : ℕ) → r ≡ extent w → r ≤ 2
-extent_low w r e = rw e (go (eqb w 0))
-  where
-    go : (b : Bool) → cond b 1 2 ≤ 2
-    go true = omega arith
-    go false = omega arith
-
-module _ (c : ℕ) (d : Bool) (s : State) where
-  pub held_out : held_back c d ≡ refusal (check (eqb c 0) 13 (check (not d) 14 (done s)))
-  unfolding held_back check
-  held_out = go (eqb c 0) d
-    where
-      go : (a b : Bool) → cond a (cond b 14 0) 13 ≡ refusal (check a 13 (check (not b) 14 (done s)))
-      go true true = refl
-      go true false = refl
-      go false b = refl
-
-  -- share: "13 and 14 apply only where h may write f now and w = 0"
-  pub narrow_out : (b : Bool) → b ≡ true → held_back c d ≡ refusal (check (not b || eqb c 0) 13 (check (not b || not d) 14 (done s)))
-  narrow_out b e = rw e held_out
-
-  pub wide_out : (b : Bool) → b ≡ false → 0 ≡ refusal (check (not b || eqb c 0) 13 (check (not b || not d) 14 (done s)))
-  unfolding check
-  wide_out b e = rw e
+use Rattle.monitor_share.specs.Share.{sharing, unsharing, extent}
 
 module _ {m l : List ℕ} (ok : Sound m l) (g f h : ℕ) where
   abbrev after : ℕ → State
@@ -112,3 +88,6 @@ module _ {m l : List ℕ} (ok : Sound m l) (g f h : ℕ) where
     pub unshare_end : (l' : List ℕ) → Changed (with_share f h 0) l l' → Done (unsharing g f h) m l m l'
     unshare_end l' c = shared_end (unsharing g f h) 0 l' (λ k q. unshare_good (state_of m l) ok.core k q g f h) unshare_owned
         unshare_passed.1 c
+
+-- what the tests of both ask: the guest's row, and what Shared keeps of a stored number
+pub ruleset tests = (guest_there, known_nothing, known_writing)

@@ -18,6 +18,8 @@ use Rattle.model.proofs.Invariant.Core.{low}
 use Rattle.model.proofs.Invariant.Kinds.{clash}
 use Rattle.model.proofs.Invariant.Choice.{free_less}
 use Rattle.model.proofs.Invariant.NewTable.{linked_core, linked_new, linked_keep}
+use Rattle.ledger.specs.Columns.{GUEST_ROWS}
+use Rattle.ledger.proofs.Laws.Fields.{guest_low}
 use Rattle.ledger.specs.Layout.{size_of, first_of, kind_of, word_of, pick_of, state_in, state_of}
 use Rattle.ledger.specs.Fields.{remade, with_kind, with_words}
 use Rattle.ledger.specs.LedgerSound.{Taken}
@@ -43,6 +45,9 @@ upper_less (suc h) v = let a = upper_less h v in omega arith
 module _ {m l : List ℕ} {g v h t : ℕ} (w : Growing m l g v h t) where
   pub grow_guest : is_guest g ≡ true
   grow_guest = w.sound.core.guests_only g (w.sound.core.table_exists t g h (upper (suc h) v) w.serves)
+
+  pub grow_row : g < GUEST_ROWS
+  grow_row = (guest_low g grow_guest).1
 
   pub grow_low : t < size_of l
   grow_low = unfold state_in in low (state_of m l) w.sound.core t (table g h (upper (suc h) v)) w.serves refl
@@ -204,3 +209,6 @@ module _ {m l : List ℕ} {g v h t : ℕ} (w : Growing m l g v h t) (pos : 0 < h
           ∙ goes_on growing_so upper_so low_u free_u taken eu m' w2 len;
       pages_stay = stay growing_so upper_so low_u free_u taken eu m' w2 len;
     }
+
+-- what a new table asks of where the doing stands
+pub ruleset grows_so = (grow_row, grow_range, grow_words, make_placed, make_room)

@@ -4,7 +4,7 @@ use mathlib.Core.Bool.{true, false, true≢false}
 use mathlib.Core.Logic.{inl, inr}
 use mathlib.Core.Option.{Option, none, some}
 use mathlib.Core.List.{List}
-use Prim.Native.Nat.{ℕ, zero, suc, ◌-◌, ◌<◌, ◌≤◌, ◌%◌}
+use Prim.Native.Nat.{ℕ, zero, suc, ◌-◌, ◌*◌, ◌<◌, ◌≤◌, ◌/◌, ◌%◌, ◌^◌}
 use native.Mathlib.Omega.{arith}
 use Rattle.model.proofs.Laws.Base.{eq?}
 use Rattle.model.specs.State.{State, table, page_count}
@@ -21,6 +21,20 @@ use Rattle.ledger.specs.Sound.{Sound}
 use Rattle.ledger.proofs.Laws.Sound.{within}
 use Rattle.monitor_tables.specs.Entries.{ToTable}
 use Rattle.monitor_tables.specs.Way.{Reached, Ended}
+
+-- a shift leaves out the last h groups of nine bits
+pub shifted : (h v : ℕ) → h ≤ 3 → v / 2 ^ (9 * h) ≡ upper h v
+unfolding upper
+shifted h v l = elim (eq? h 0) [
+  | inl e ↦ rw e (omega arith)
+  | inr n0 ↦ elim (eq? h 1) [
+    | inl e ↦ rw e
+    | inr n1 ↦ elim (eq? h 2) [
+      | inl e ↦ rw e (omega arith)
+      | inr n2 ↦ let e : h ≡ 3 = omega arith in rw e (omega arith)
+    ]
+  ]
+]
 
 module _ (s : State) (c : Core s) (g v : ℕ) where
   pub reached_root : s.exists g ≡ true → v < page_count → Reached s g v 3 (s.root g)
@@ -57,8 +71,8 @@ module _ (s : State) (c : Core s) (g v : ℕ) where
   reached_low h t a = low s c t (table g h (upper (suc h) v)) a.serves refl
 
   -- where it ends
-  pub ended_last : (h t : ℕ) → Reached s g v h t → h ≤ 0 → Ended s g v h t
-  ended_last h t a l = record { reached = a; stops = inl (omega arith) }
+  pub ended_last : (h t : ℕ) → Reached s g v h t → h < 1 → Ended s g v 0 t
+  ended_last h t a l = let z : h ≡ 0 = omega arith in subst (λ (x : ℕ). Ended s g v x t) z (record { reached = a; stops = inl z })
 
   pub ended_short : (h t x : ℕ) → Reached s g v h t → x ≡ s.word t (index h v) → x ≡ 0 → Ended s g v h t
   ended_short h t x a e z = record { reached = a; stops = inr (sym e ∙ z) }
@@ -151,3 +165,6 @@ module _ {m l : List ℕ} (ok : Sound m l) {g v : ℕ} (ex : exists_of l g ≡ t
         in
         let leaf_is = last_leaf (state_of m l) ok.core g v t there h way z in
         sym (ap (λ (o : Option Page). is_some o) (translate_at (state_of m l) g v t y.frame y.rights leaf_is y.reads))
+
+-- what is known at the end of the way
+pub ruleset ends = (way_words, mapped_above, mapped_not, mapped_here)

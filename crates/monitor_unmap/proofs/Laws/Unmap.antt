@@ -1,6 +1,6 @@
 -- Laws of specs/Unmap.
 use mathlib.Core.Path.{◌≡◌, refl, sym, ap, subst, ◌∙◌}
-use mathlib.Core.Bool.{Bool, true, false}
+use mathlib.Core.Bool.{Bool, true}
 use mathlib.Core.Logic.{inl, inr}
 use mathlib.Core.Option.{none, some}
 use mathlib.Core.List.{List}
@@ -14,14 +14,15 @@ use Rattle.model.specs.State.{page_count, State, table, page, is_guest}
 use Rattle.model.specs.Entry.{entry, to_page}
 use Rattle.model.specs.Translate.{upper, entry_at, translate, mapped}
 use Rattle.model.specs.Changes.{without_page, without_mapping}
-use Rattle.model.specs.Operations.{refuse, done, check, page_address, unmap}
+use Rattle.model.specs.Operations.{done, check, page_address, unmap}
 use Rattle.model.proofs.Laws.Ways.{Shows}
 use Rattle.model.specs.Invariant.{May}
 use Rattle.model.proofs.Invariant.Core.{low}
 use Rattle.model.proofs.Invariant.Counts.{places_zero}
 use Rattle.model.proofs.Invariant.Way.{translate_at}
-use Rattle.model.proofs.Invariant.MapUnmap.{without_is, unmap_good}
-use Rattle.ledger.specs.Columns.{SHARE_UNIT}
+use Rattle.model.proofs.Invariant.MapUnmap.{without_is, unmap_good, address_low}
+use Rattle.ledger.specs.Columns.{SHARE_UNIT, GUEST_ROWS}
+use Rattle.ledger.proofs.Laws.Fields.{guest_low}
 use Rattle.ledger.specs.Layout.{size_of, first_of, exists_of, kind_of, count_of, word_of, state_in, state_of}
 use Rattle.ledger.specs.Fields.{remade, with_count, with_dirt, with_words}
 use Rattle.ledger.specs.LedgerSound.{Changed}
@@ -33,28 +34,16 @@ use Rattle.monitor_contract.specs.Answers.{Done}
 use Rattle.monitor_contract.proofs.Laws.Answers.{good_done}
 use Rattle.monitor_tables.specs.Entries.{ToPage, LeadsTo}
 use Rattle.monitor_tables.specs.Way.{Ended}
-use Rattle.monitor_tables.proofs.Laws.Way.{mapped_shows, last_serves, last_leaf}
+use Rattle.monitor_tables.proofs.Laws.Way.{way_words, mapped_shows, last_serves, last_leaf}
 use Rattle.model.specs.Machine.{Unmap, answer}
 use Rattle.model.proofs.Invariant.Answer.{then_is}
 use Rattle.model.proofs.Invariant.Effects.{rows}
 use Rattle.model.proofs.Invariant.RoundTrip.{after_unmap}
-use Rattle.monitor_contract.specs.Found.{Translates, Finds, Nonzero}
-use Rattle.monitor_contract.proofs.Laws.Found.{finds_asked, tested, was_done}
+use Rattle.monitor_contract.specs.Found.{Translates, Finds}
+use Rattle.monitor_contract.proofs.Laws.Found.{finds_asked}
 use Rattle.monitor_unmap.specs.Unmap.{unmapping, Slotted}
 
 module _ (s : State) (a g : ℕ) where
-  pub unmap_5 : s.exists g ≡ false → unmap s a g ≡ refuse 5
-  unfolding unmap check
-  unmap_5 e = rw e
-
-  pub unmap_7 : s.exists g ≡ true → page_address a ≡ false → unmap s a g ≡ refuse 7
-  unfolding unmap check
-  unmap_7 e q = rw (e, q)
-
-  pub unmap_11 : s.exists g ≡ true → page_address a ≡ true → mapped s g (a / 4096) ≡ false → unmap s a g ≡ refuse 11
-  unfolding unmap check
-  unmap_11 e q z = rw (e, q, z)
-
   unmap_done : s.exists g ≡ true → page_address a ≡ true → mapped s g (a / 4096) ≡ true →
       unmap s a g ≡ done (without_mapping s g (a / 4096))
   unfolding unmap check
@@ -65,9 +54,6 @@ module _ {m l : List ℕ} (ok : Sound m l) (a g : ℕ) (ex : exists_of l g ≡ t
     (way : Ended (state_of m l) g (a / 4096) h t) where
   there : (state_of m l).exists g ≡ true
   there = unfold state_in in ex
-
-  pub plan_unmapped : (b : Bool) → b ≡ mapped (state_of m l) g (a / 4096) → b ≡ false → unmap (state_of m l) a g ≡ refuse 11
-  plan_unmapped b q n = unmap_11 (state_of m l) a g there ad (sym q ∙ n)
 
   -- the entry, and the frame f that it was decoded to
   module _ (b : Bool) (q : b ≡ mapped (state_of m l) g (a / 4096)) (y : b ≡ true) (first x : ℕ) (ef : first ≡ first_of l)
@@ -107,6 +93,9 @@ module _ {m l : List ℕ} (ok : Sound m l) (a g : ℕ) (ex : exists_of l g ≡ t
 module _ {m l : List ℕ} (ok : Sound m l) {a g t f : ℕ} (x : Slotted (state_of m l) a g t f) where
   pub unmap_guest : is_guest g ≡ true
   unmap_guest = guest_there m l ok g (unfold state_in in x.exists)
+
+  pub unmap_row : g < GUEST_ROWS
+  unmap_row = (guest_low g unmap_guest).1
 
   pub unmap_words : (t < page_count) × Within m t
   unmap_words =
@@ -176,7 +165,5 @@ module _ {m l m' l' : List ℕ} (ok : Sound m l) where
     pub unmap_found : Finds g a none m' l'
     unmap_found = finds_asked m' l' d.sound g a none (after_unmap (state_of m l) ok.core g a (state_of m' l') d.made)
 
-pub unmap_nonzero : (s : State) (g a : ℕ) → Nonzero (unmap s a g)
-unfolding unmap
-unmap_nonzero s g a = tested (s.exists g) 5 _ (omega arith)
-    (tested (page_address a) 7 _ (omega arith) (tested (mapped s g (a / 4096)) 11 _ (omega arith) (was_done _)))
+-- what the plan asks on its way: the page's number fits, and the table that the way comes to lies in RAM
+pub ruleset plans = (address_low, way_words)

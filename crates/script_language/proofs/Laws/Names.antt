@@ -1,135 +1,116 @@
--- A word's place among those of a text tells what a table has for it.
-use Prim.Native.Nat.{ℕ, zero, suc, ◌+◌, ◌-◌, ◌≤◌, ◌<◌}
-use mathlib.Core.Path.{◌≡◌, refl, sym, ap, ◌∙◌}
-use mathlib.Core.Bool.{Bool, true, false, cond}
-use mathlib.Core.List.{List, [], ◌∷◌}
-use native.Mathlib.Numerals.{add-one}
-use native.Mathlib.Omega.{arith}
-use lib.ListN.{length, take, drop}
-use borrow.Author.Tests.{lt-ltb, le-ltb}
-use Rattle.script_language.specs.declared.arguments.Form.TheVariants.{Access, Level}
-use Rattle.script_language.specs.declared.arguments.Argument.TheVariants.{Given, Wrong}
+-- A word looked up among names, and in the table.
+use Rattle.std.proofs.Common.{ℕ, suc, ◌+◌, ◌≡◌, refl, ap, sym, ◌≤◌, ◌∙◌, Bool, true, false, cond, List, [], ◌∷◌, ◌++◌, length, map, Option, Some, None, Ok, Err, nat_lt, nat_le, arith, Bor}
+use Rattle.std.proofs.lemmas.List.{length-map}
+use Rattle.std.specs.List.{position, position_or_len, find}
+use Rattle.std.specs.Option.{ok_or, option_map}
+use Rattle.std.specs.Str.{bytes_eq}
+use mathlib.Core.Bool.{not}
+use borrow.Author.Tests.{leb-true}
+use Rattle.script_text.proofs.Laws.Scanning.{same_bytes}
 use Rattle.script_language.specs.declared.Reason.{Reason}
-use Rattle.script_language.specs.declared.Reason.TheVariants.{AccessExpected, LevelExpected}
-use Rattle.script_language.specs.declared.names.FirstWord.{FirstWord}
-use Rattle.script_language.specs.declared.names.FirstWord.TheVariants.{Known}
-use Rattle.script_text.specs.Text.{ascii}
-use Rattle.script_text.specs.Words.{is_blank, after_blanks, leading_word, after_word, same_text, WordEnds}
-use Rattle.script_language.specs.Names.{Entry, operation_table, command_table, lookup, first_words, word_index}
-use Rattle.script_language.specs.Commands.{named_argument, read_argument}
+use Rattle.script_language.specs.declared.names.CommandName.{CommandName}
+use Rattle.script_language.specs.declared.names.Form.{Form}
+use Rattle.script_language.specs.Names.{Entry, command_table, operation_table, command_numbers, access_and_level, forms_of, most_arguments, lookup, word_index, first_word, operation_word}
+use Rattle.script_language.specs.Commands.{named_argument}
 
--- k words of s are passed, up to the place `at`, and none of them is w
-pub record Passed (w s : List ℕ) (n at k : ℕ) : Type 0 where
-  pub inside : at ≤ length s
-  pub within : k ≤ n
-  pub so_far : word_index w (first_words n s) ≡ k + word_index w (first_words (n - k) (drop at s))
+-- the place of the first name that is w
+abbrev pub is_name : List ℕ → Bor (List ℕ) → Bool
+is_name w x = bytes_eq w x.now
 
-pub passed_none : (w s : List ℕ) (n : ℕ) → Passed w s n 0 0
-passed_none w s n =
-    let z : n - 0 ≡ n = omega arith in
-    record { inside = omega arith; within = omega arith; so_far = rw z (omega arith) }
+place_first : (b : Bool) (n : ℕ) → cond (not b) (1 + n) 0 ≡ cond b 0 (suc n)
+place_first true n = refl
+place_first false n = omega arith
 
-module _ {w s : List ℕ} {n at k from to : ℕ} (p : Passed w s n at k) (h : k < n) (u : drop from s ≡ after_blanks (drop at s))
-    (e : WordEnds s from to) where
-  place_at : word_index w (first_words (n - k) (drop at s))
-      ≡ cond (same_text w (take (to - from) (drop from s))) 0 (suc (word_index w (first_words (n - suc k) (drop to s))))
-  unfolding first_words word_index
-  place_at =
-      let z : n - k ≡ suc (n - suc k) = omega arith in
-      rw (z, ← u, e.word, e.after)
+pub index_at : (w : List ℕ) (l : List (Bor (List ℕ))) → position_or_len (is_name w) l ≡ word_index w (map (λ (x : Bor (List ℕ)). x.now) l)
+unfolding word_index
+index_at w [] = refl
+index_at w (x ∷ l) =
+    place_first (bytes_eq w x.now) _ ∙ rw (same_bytes w x.now, index_at w l) refl
 
-  pub found_here : true ≡ same_text w (take (to - from) (drop from s)) → k ≡ word_index w (first_words n s)
-  found_here t = sym (p.so_far ∙ rw (place_at, ← t) (omega arith))
+-- its number, or why there is none
+chosen : (b : Bool) (n : ℕ) (why : Reason) → ok_or (cond b (Some n) None) why ≡ cond b (Ok n) (Err why)
+chosen true n why = refl
+chosen false n why = refl
 
-  pub passed_more : false ≡ same_text w (take (to - from) (drop from s)) → Passed w s n to (k + 1)
-  passed_more t =
-      record {
-        inside = e.inside;
-        within = omega arith;
-        so_far = p.so_far ∙ rw (place_at, ← t, add-one k) (omega arith);
-      }
-
-pub found_none : {w s : List ℕ} {n at k : ℕ} → Passed w s n at k → n ≤ k → n ≡ word_index w (first_words n s)
-unfolding first_words word_index
-found_none {w} {s} {n} {at} {k} p h =
-    let m = p.within in
-    let z : n - k ≡ 0 = omega arith in
-    sym (p.so_far ∙ rw z (omega arith))
-
--- a name's number
-
-first_words_length : (n : ℕ) (s : List ℕ) → length (first_words n s) ≡ n
-unfolding first_words
-first_words_length zero s = refl
-first_words_length (suc n) s = ap suc (first_words_length n (after_word (after_blanks s)))
-
-pub named_there : (w s : List ℕ) (n : ℕ) (why : Reason) {k : ℕ} → k ≡ word_index w (first_words n s) → k < n
-    → Given k ≡ named_argument w (first_words n s) why
+pub named_at : (w : List ℕ) (l : List (Bor (List ℕ))) (why : Reason) {r : Option ℕ} → r ≡ position (is_name w) l
+    → ok_or r why ≡ named_argument w (map (λ (x : Bor (List ℕ)). x.now) l) why
 unfolding named_argument
-named_there w s n why e h = simp (first_words_length n s, sym e, lt-ltb _ _ h)
+named_at w l why e =
+    rw (
+      e,
+      chosen (nat_lt (position_or_len (is_name w) l) (length l)) (position_or_len (is_name w) l) why,
+      index_at w l,
+      length-map l (λ (x : Bor (List ℕ)). x.now),
+    ) refl
 
-pub named_none : (w s : List ℕ) (n : ℕ) (why : Reason) {k : ℕ} → k ≡ word_index w (first_words n s) → n ≤ k
-    → Wrong why ≡ named_argument w (first_words n s) why
-unfolding named_argument
-named_none w s n why e h = simp (first_words_length n s, sym e, le-ltb _ _ h)
+-- a row of the code's table: what it names, and what follows the word
 
-pub access_named : (w : List ℕ) → named_argument w (first_words 3 (ascii "r w x")) AccessExpected ≡ read_argument Access w
-unfolding read_argument first_words after_blanks leading_word after_word is_blank
-access_named w = refl
+abbrev pub Row : Type 0
+Row = Bor (List ℕ) × CommandName × Bor (List Form)
 
-pub level_named : (w : List ℕ) → named_argument w (first_words 2 (ascii "el0 el1")) LevelExpected ≡ read_argument Level w
-unfolding read_argument first_words after_blanks leading_word after_word is_blank
-level_named w = refl
+abbrev pub is_word : List ℕ → Row → Bool
+is_word w x = bytes_eq w x.0.now
 
--- what a table has at a place
-abbrev pub chosen : List Entry → ℕ → FirstWord → FirstWord
-chosen [] k other = other
-chosen (e ∷ t) zero other = Known e.name
-chosen (e ∷ t) (suc k) other = chosen t k other
+abbrev entry_of : Row → Entry
+entry_of x = record { word = x.0.now; name = x.1 }
 
-pub words : List Entry → List (List ℕ)
-words [] = []
-words (e ∷ t) = e.word ∷ words t
+abbrev name_of : Option Row → Option CommandName
+name_of r = option_map (λ (x : Row). x.1) r
 
-looked : (w : List ℕ) (t : List Entry) (other : FirstWord) → chosen t (word_index w (words t)) other ≡ lookup w t other
-unfolding lookup word_index words
-looked w [] other = refl
-looked w (e ∷ t) other = go (same_text w e.word) (looked w t other)
-  where
-    go : (b : Bool) → chosen t (word_index w (words t)) other ≡ lookup w t other
-        → chosen (e ∷ t) (cond b 0 (suc (word_index w (words t)))) other ≡ cond b (Known e.name) (lookup w t other)
-    go true h = refl
-    go false h = h
+-- the rows are those of the definition's two tables, and what follows each is what the definition says
+pub record IsTable (rows : List Row) : Type 0 where
+  pub entries : map entry_of rows ≡ command_table ++ operation_table
+  pub forms : map (λ (x : Row). x.2.now) rows ≡ map (λ (x : Row). forms_of (command_numbers x.1) (access_and_level x.1)) rows
+  pub few : map (λ (x : Row). nat_le (length x.2.now) most_arguments) rows ≡ map (λ (x : Row). true) rows
 
-beyond : (t : List Entry) (k : ℕ) (other : FirstWord) → length t ≤ k → other ≡ chosen t k other
-beyond [] k other h = refl
-beyond (e ∷ t) zero other h = absurd (omega arith)
-beyond (e ∷ t) (suc k) other h = beyond t k other (omega arith)
+named_first : (b : Bool) (x : Row) (r : Option Row) {other : Option CommandName} → name_of r ≡ other
+    → name_of (cond b (Some x) r) ≡ cond b (Some x.1) other
+named_first true x r h = refl
+named_first false x r h = h
 
--- r is none of the numbers below n, as a `match` tells it
-abbrev pub Apart : ℕ → ℕ → Type 0
-Apart zero r = Unit
-Apart (suc n) r = Apart n r × (r ≡ n → ⊥)
+found : (w : List ℕ) (rows : List Row) → name_of (find (is_word w) rows) ≡ lookup w (map entry_of rows) None
+unfolding lookup
+found w [] = refl
+found w (x ∷ rows) =
+    named_first (is_word w x) x (find (is_word w) rows) (found w rows) ∙ rw (same_bytes w x.0.now) refl
 
-apart : (n r : ℕ) → Apart n r → n ≤ r
-apart zero r h = omega arith
-apart (suc n) r h =
-    let l : n ≤ r = apart n r h.0 in
-    let d : r ≡ n → ⊥ = h.1 in
-    omega arith
+both_tables : (w : List ℕ) → lookup w (command_table ++ operation_table) None ≡ first_word w
+unfolding first_word operation_word lookup
+both_tables w = refl
 
--- what w asks for by a table, from its place among the table's words
-module _ (t : List Entry) (w : List ℕ) (other : FirstWord) {l : List (List ℕ)} (same : l ≡ words t) {r : ℕ} (e : r ≡ word_index w l) where
-  pub at_place : {k : ℕ} → r ≡ k → chosen t k other ≡ lookup w t other
-  at_place h = rw (← h, e, same) (looked w t other)
+row_step : {A : Type 0} (f g : Row → A) (b : Bool) (y x : Row) (r : Option Row) → f y ≡ g y → (r ≡ Some x → f x ≡ g x)
+    → cond b (Some y) r ≡ Some x → f x ≡ g x
+row_step f g true y x r e h k = cc
+row_step f g false y x r e h k = h k
 
-  pub no_place : Apart (length t) r → other ≡ lookup w t other
-  no_place d = beyond t r other (apart (length t) r d) ∙ at_place refl
+-- what holds of each row holds of the one that is found
+each_row : {A : Type 0} (f g : Row → A) (test : Row → Bool) (rows : List Row) (x : Row) → map f rows ≡ map g rows
+    → find test rows ≡ Some x → f x ≡ g x
+each_row f g test [] x e h = cc
+each_row f g test (y ∷ rows) x e h = row_step f g (test y) y x (find test rows) (cc) (λ k. each_row f g test rows x (cc) k) h
 
-pub command_words : first_words 9 (ascii "setup word peek stage2 walk translate frame guest ledger") ≡ words command_table
-unfolding first_words words after_blanks leading_word after_word is_blank
-command_words = refl
+-- r is what the search for w among the rows gave
+module _ (w : List ℕ) (rows : List Row) (t : IsTable rows) (r : Option (Bor Row))
+    (f : option_map (λ (x : Bor Row). x.now) r ≡ find (is_word w) rows) where
+  looked_up : name_of (option_map (λ (x : Bor Row). x.now) r) ≡ first_word w
+  looked_up = ap name_of f ∙ found w rows ∙ rw t.entries (both_tables w)
 
-pub operation_words : first_words 9 (ascii "create give map unmap share unshare take destroy invalidated") ≡ words operation_table
-unfolding first_words words after_blanks leading_word after_word is_blank
-operation_words = refl
+  pub no_row : r ≡ None → None ≡ first_word w
+  no_row h = rw h at looked_up
+
+  module _ {x : Bor Row} (h : r ≡ Some x) where
+    pub row_names : Some x.now.1 ≡ first_word w
+    row_names = rw h at looked_up
+
+    is_row : find (is_word w) rows ≡ Some x.now
+    is_row = sym (rw h at f)
+
+    pub row_forms : x.now.2.now ≡ forms_of (command_numbers x.now.1) (access_and_level x.now.1)
+    row_forms =
+        each_row (λ (x : Row). x.2.now) (λ (x : Row). forms_of (command_numbers x.1) (access_and_level x.1)) (is_word w) rows x.now t.forms
+        is_row
+
+    pub row_few : length x.now.2.now ≤ most_arguments
+    row_few =
+        leb-true _ _
+        (each_row (λ (x : Row). nat_le (length x.2.now) most_arguments) (λ (x : Row). true) (is_word w) rows x.now t.few is_row)

@@ -1,19 +1,19 @@
 -- Where a word of RAM is in its slice; and what each command did, from what its callees ensure.
 use Prim.Native.Nat.{ℕ, ◌+◌, ◌-◌, ◌*◌, ◌/◌, ◌%◌, ◌≤◌, ◌<◌, ◌^◌}
 use mathlib.Core.Path.{◌≡◌, refl, sym, ap, subst, ◌∙◌}
-use mathlib.Core.Bool.{Bool, true, false, not, ◌&&◌, ◌||◌}
+use mathlib.Core.Bool.{Bool, true, false, not, cond, ◌&&◌, ◌||◌}
 use mathlib.Core.List.{List, ◌++◌}
 use native.Mathlib.Omega.{arith}
-use lib.Dec.{leb, ltb, eqb}
+use Rattle.std.proofs.Common.{Some, None}
+use lib.Dec.{leb, ltb}
 use lib.ListN.{length, take, drop}
 use lib.Seq.{length-take-le, length_front, take_at, drop_at, take-set-lt}
-use borrow.Author.Tests.{leb-true, ltb-true, ne_eqb}
+use borrow.Author.Tests.{leb-true, ltb-true}
 use Rattle.memory.specs.Ram.{frame_bytes, ram_fits}
 use Rattle.memory.proofs.Laws.Ram.{RamFits, fits as place_fits, fits_so}
 use Rattle.memory.specs.Word.{stored_at, cleared_at}
 use Rattle.memory.proofs.Laws.Words.{length_kept, cleared_length}
-use Rattle.model.specs.State.{KindOfFrame, monitor, free, table, draining_table, page, draining_page, tabled}
-use Rattle.model.specs.State.{kind_number}
+use Rattle.model.specs.State.{tabled}
 use Rattle.ledger.specs.Layout.{words_for, first_of, kind_of}
 use Rattle.ledger.specs.Sound.{Sound}
 use Rattle.ledger.proofs.Laws.Beside.{word_beside}
@@ -23,10 +23,9 @@ use Rattle.monitor.proofs.Laws.SetUp.{lengths_fit, fits_all}
 use Rattle.script_language.specs.declared.Operation.{Operation}
 use Rattle.script_language.specs.declared.Command.TheVariants.{SetUp, StoreWord, Operate}
 use Rattle.script_machine.specs.declared.Machine.{Machine}
-use Rattle.script_machine.specs.declared.Reply.{Reply}
 use Rattle.script_machine.specs.declared.Reply.TheVariants.{Done, Number}
 use Rattle.script_machine.specs.Operations.{operation}
-use Rattle.script_machine.specs.Machine.{word_bytes, RamLent, MachineSound, allowed_of, word_in_ram, word_in_table, ram_of, ledger_of, outcome, machine_of, if_ready, SetupDone, OperationDone, Executed}
+use Rattle.script_machine.specs.Machine.{word_bytes, RamLent, MachineSound, allowed_of, word_in_ram, word_in_table, ram_of, ledger_of, outcome, machine_of, SetupDone, OperationDone, Executed}
 use Rattle.script_machine.proofs.Laws.Parts.{ledger_within}
 use Rattle.script_machine.proofs.Laws.Based.{first_kept, started_so}
 
@@ -39,7 +38,16 @@ neither true y e = (let z : ◌≡◌ {A = Bool} false true = e in cc, let z : �
 neither false true e = (refl, let z : ◌≡◌ {A = Bool} false true = e in cc)
 neither false false e = (refl, refl)
 
--- a word in RAM: where it is in the slice
+-- a word that has a place in RAM
+pub placed : (m : Machine) (a at : ℕ) → Some at ≡ cond (word_in_ram m a) (Some (a - m.base)) None
+    → (word_in_ram m a ≡ true) × (at ≡ a - m.base)
+placed m a at e = go (word_in_ram m a) e
+  where
+    go : (t : Bool) → Some at ≡ cond t (Some (a - m.base)) None → (t ≡ true) × (at ≡ a - m.base)
+    go true e = (refl, cc)
+    go false e = cc
+
+-- and where it is in the slice
 pub place : (m : Machine) (a : ℕ) → word_in_ram m a ≡ true → (m.base ≤ a) × (a - m.base + word_bytes ≤ frame_bytes * m.frames)
 unfolding word_in_ram
 place m a e =
@@ -67,25 +75,6 @@ allowed lent words n b k e =
       room = leb-true _ _ p2.1;
       fewer = ltb-true _ _ p3.1;
     }
-
--- a frame that holds a table, by the number of what it is
-by_sort : (x : KindOfFrame) → tabled x ≡ (eqb (kind_number x) 2 || eqb (kind_number x) 3)
-by_sort monitor = refl
-by_sort free = refl
-by_sort (table g h p) = refl
-by_sort (draining_table g h p) = refl
-by_sort (page g) = refl
-by_sort (draining_page g) = refl
-
-module _ (l : List ℕ) (f k : ℕ) (e : k ≡ kind_number (kind_of l f)) where
-  pub in_use : k ≡ 2 → true ≡ tabled (kind_of l f)
-  in_use q = sym (by_sort (kind_of l f) ∙ rw (sym e, q))
-
-  pub drains : (k ≡ 2 → ⊥) → eqb k 3 ≡ tabled (kind_of l f)
-  drains ne = sym (by_sort (kind_of l f) ∙ rw (sym e, ne_eqb k 2 ne))
-
-pub if_ready_so : (m : Machine) (x y : Reply) → m.ready ≡ true → y ≡ x → y ≡ if_ready m x
-if_ready_so m x y h e = e ∙ rw h
 
 -- a part that was lent is back: it is in its place, and the rest is as it was
 module _ (n : ℕ) (xs ys : List ℕ) (low : n ≤ length xs) (len : length ys ≡ length (take n xs)) where

@@ -1,16 +1,17 @@
 -- Texts that are put one after the other, and the digits of a number.
-use Prim.Native.Nat.{ℕ, zero, suc, ◌+◌, ◌-◌, ◌/◌, ◌%◌, ◌≤◌, ◌<◌}
+use Prim.Native.Nat.{ℕ, zero, suc, ◌+◌, ◌-◌, ◌/◌, ◌%◌, ◌≤◌, ◌<◌, min}
 use Prim.Native.Char.{code}
 use mathlib.Core.Path.{◌≡◌, refl, sym, ap, ◌∙◌}
-use mathlib.Core.Bool.{cond}
+use mathlib.Core.Bool.{Bool, true, false, cond, not}
 use mathlib.Core.List.{List, [], ◌∷◌, ◌++◌, append_assoc, append-nil}
-use native.Mathlib.Numerals.{add-one}
-use native.Mathlib.Nat.{add-zero, not-suc-le-zero}
+use Rattle.std.proofs.Common.{Option, Some, None, unwrap_or, nat_eq, nat_lt}
+use Rattle.std.specs.List.{position, position_or_len}
+use Rattle.std.proofs.lemmas.Bool.Decides.{nat_tests}
+use native.Mathlib.Nat.{not-suc-le-zero}
 use native.Mathlib.Omega.{arith}
 use lib.Dec.{eqb}
-use lib.ListN.{length, get_or, set, take, drop, length-append, length-drop}
-use lib.Seq.{drop-cons, take-suc, take-suc-set, take_all, drop-length, set_split, drop_at, length-take-le}
-use borrow.Author.Tests.{eq-eqb, ne_eqb}
+use lib.ListN.{length, set, take, drop, length-append, length-drop}
+use lib.Seq.{take_all, drop-length, set_split, drop_at, length-take-le}
 use Rattle.script_text.specs.Digits.{digit_character, digits, without_zeros}
 use Rattle.script_text.specs.Wrote.{Wrote}
 
@@ -34,26 +35,10 @@ wrote_within {a} {b} w h e =
     let w1 = w.near in
     record { near = omega arith; next = rw (← e) w.next; there = rw (← e) w.there }
 
--- a text byte by byte
-
-pub put_none : (m text : List ℕ) (at : ℕ) → take (at + 0) m ≡ take at m ++ take 0 text
-put_none m text at = rw add-zero (sym (append-nil (take at m)))
-
-pub put_more : (m l text : List ℕ) (at i : ℕ) → at + i < length l → i < length text → take (at + i) l ≡ take at m ++ take i text
-    → take (at + (i + 1)) (set l (at + i) (get_or text i 0)) ≡ take at m ++ take (i + 1) text
-put_more m l text at i room h e =
-    let n : at + (i + 1) ≡ suc (at + i) = omega arith in
-    rw (n, take-suc-set l (at + i) _ room, e, add-one i, take-suc text i 0 h, append_assoc)
-
-pub put_all : {m l text : List ℕ} {at i : ℕ} → i ≤ length text → length text ≤ i → take (at + i) l ≡ take at m ++ take i text
-    → Wrote (length text) m at l (at + i) text
-put_all {text = text} {at} {i} h g e =
-    record { near = omega arith; next = omega arith; there = e ∙ rw (take_all i text g) }
-
 -- digits, the lowest first
 
-pub spell_none : (out : List ℕ) (b n : ℕ) → digits b (length out) n ≡ digits b (length out) n ++ drop (length out) out
-spell_none out b n = rw drop-length (sym (append-nil (digits b (length out) n)))
+pub spell_none : (out : List ℕ) (b n : ℕ) {k : ℕ} → length out ≡ k → digits b k n ≡ digits b k n ++ drop k out
+spell_none out b n h = rw (← h, drop-length) (sym (append-nil (digits b (length out) n)))
 
 spell_step : (out : List ℕ) (b j n : ℕ) → j < length out
     → digits b (suc j) n ++ drop (suc j) out ≡ digits b j (n / b) ++ drop j (set out j (digit_character (n % b)))
@@ -74,30 +59,29 @@ spell_more out b (suc j) n p h e =
 
 -- the zeros in front
 
-zeros_at : (l : List ℕ) (i : ℕ) → i + 1 < length l
-    → without_zeros (drop i l) ≡ cond (eqb (get_or l i 0) (code "0")) (without_zeros (drop (i + 1) l)) (drop i l)
+abbrev pub is_shown : ℕ → Bool
+is_shown d = not (nat_eq d (code "0"))
+
+zero_first : (b : Bool) (n k d : ℕ) (l : List ℕ) {m : List ℕ} → drop (min n k) l ≡ m
+    → drop (min (cond (not (not b)) (1 + n) 0) (suc k)) (d ∷ l) ≡ cond b m (d ∷ l)
+zero_first true n k d l h = let e : min (1 + n) (suc k) ≡ suc (min n k) = omega arith in rw e h
+zero_first false n k d l h = let e : min 0 (suc k) ≡ 0 = omega arith in rw e refl
+
+zeros_in_front : (d : ℕ) (l : List ℕ) → drop (min (position_or_len is_shown (d ∷ l)) (length l)) (d ∷ l) ≡ without_zeros (d ∷ l)
 unfolding without_zeros
-zeros_at l i h =
-    let g : i < length l = omega arith in
-    let k : suc i < length l = omega arith in
-    rw (add-one i, drop-cons l i 0 g, drop-cons l (suc i) 0 k)
+zeros_in_front d [] = let e : min (position_or_len is_shown (d ∷ [])) 0 ≡ 0 = omega arith in rw e refl
+zeros_in_front d (e ∷ l) = zero_first (nat_eq d (code "0")) _ _ d (e ∷ l) (zeros_in_front e l)
 
-pub zeros_stop : (l : List ℕ) (i : ℕ) → i + 1 < length l → (get_or l i 0 ≡ code "0" → ⊥)
-    → without_zeros l ≡ without_zeros (drop i l) → drop i l ≡ without_zeros l
-zeros_stop l i h n e = sym (e ∙ rw (zeros_at l i h, ne_eqb _ _ n))
+place_or_last : (n k : ℕ) → unwrap_or (cond (nat_lt n (suc k)) (Some n) None) k ≡ min n k
+place_or_last n k = grind (arith, nat_tests)
 
-pub zeros_more : (l : List ℕ) (i : ℕ) → i + 1 < length l → get_or l i 0 ≡ code "0"
-    → without_zeros l ≡ without_zeros (drop i l) → without_zeros l ≡ without_zeros (drop (i + 1) l)
-zeros_more l i h n e = e ∙ rw (zeros_at l i h, eq-eqb _ _ n)
-
-short : (l : List ℕ) → length l ≤ 1 → without_zeros l ≡ l
-unfolding without_zeros
-short [] h = refl
-short (d ∷ []) h = refl
-short (d ∷ e ∷ l) h = absurd (omega arith)
-
-pub zeros_last : (l : List ℕ) (i : ℕ) → length l ≤ i + 1 → without_zeros l ≡ without_zeros (drop i l) → drop i l ≡ without_zeros l
-zeros_last l i h e = sym (e ∙ short (drop i l) (omega (arith, length-drop i l)))
+-- the first digit that is shown, or the last one
+pub zeros_passed : (l : List ℕ) (k : ℕ) {r : Option ℕ} {from : ℕ} → length l ≡ suc k → r ≡ position is_shown l → from ≡ unwrap_or r k
+    → drop from l ≡ without_zeros l
+zeros_passed [] k h p e = absurd (omega arith)
+zeros_passed (d ∷ l) k h p e =
+    let n : k ≡ length l = omega arith in
+    rw (e, p, n, place_or_last (position_or_len is_shown (d ∷ l)) (length l)) (zeros_in_front d l)
 
 pub length_digits : (b k n : ℕ) → length (digits b k n) ≡ k
 unfolding digits
@@ -128,6 +112,8 @@ wrote_none = record { near = omega arith; next = refl; there = refl }
 pub digits_wrote : (b k n : ℕ) {l m out : List ℕ} {at r : ℕ}
     → l ≡ digits b k n → Wrote (length l) m at out r l → Wrote k m at out r (digits b k n)
 digits_wrote b k n e w = wrote_within w (omega (arith, ap length e, length_digits b k n)) e
+
+pub ruleset one_after_another = (wrote_then, digits_wrote)
 
 pub take_short : (n : ℕ) (l : List ℕ) → length (take n l) ≤ n
 take_short zero l = omega arith

@@ -6,10 +6,9 @@ use native.Mathlib.Omega.{arith}
 use lib.ListN.{length, length-append}
 use Rattle.walk_descriptor.specs.declared.FaultKind.{FaultKind}
 use Rattle.walk.specs.declared.Answer.{Answer}
-use Rattle.walk.specs.declared.Ended.{Ended}
-use Rattle.walk.specs.declared.Ended.TheVariants.{Reached, Failed}
+use Rattle.std.specs.Prelude.{Ok, Err}
 use Rattle.walk.specs.Both.{Walked, ends, having_fetched, Stage2Result, reached, failed, BothResult, by_result, through, as_answer}
-use Rattle.walk.specs.Steps.{with_count, as_ended, ended, answered}
+use Rattle.walk.specs.Steps.{with_count, Ended, as_ended, ended, answered}
 
 module _ {R A : Type 0} (say : R → ℕ → A) where
   pub count_more : (n : ℕ) (places : List ℕ) (w : Walked R)
@@ -29,8 +28,8 @@ module _ {R A : Type 0} (say : R → ℕ → A) where
 -- What the end of stage 2 says of the whole walk that went through it.
 module _ (fails : FaultKind → ℕ → BothResult) (next : ℕ → Walked BothResult) where
   abbrev pub after_stage_2 : Ended → Answer
-  after_stage_2 (Reached a k) = answered k (next a)
-  after_stage_2 (Failed kind level k) = as_answer (fails kind level) k
+  after_stage_2 (Ok r) = answered (r.fetched) (next (r.address))
+  after_stage_2 (Err e) = as_answer (fails (e.kind) (e.level)) (e.fetched)
 
   by_end : (r : Stage2Result) (k : ℕ) → answered k (by_result r fails next) ≡ after_stage_2 (as_ended r k)
   by_end (reached a) k = refl

@@ -8,11 +8,11 @@ use Rattle.memory.specs.Ram.{address_end}
 use Rattle.walk_descriptor.specs.declared.FaultKind.{FaultKind}
 use Rattle.walk_descriptor.specs.declared.FaultKind.TheVariants.{WalkAbort}
 use Rattle.walk_descriptor.specs.Descriptor.{last_level}
-use Rattle.walk.specs.declared.Ended.{Ended}
-use Rattle.walk.specs.declared.Ended.TheVariants.{Reached, Failed}
+use Rattle.std.specs.Prelude.{Ok, Err}
+use Rattle.walk.specs.declared.stage_2.Reached.{Reached}
 use Rattle.walk.specs.Memory.{read_at}
 use Rattle.walk.specs.Both.{Walked, ends, Stage2Result, reached, failed, rules_2, fetch_2, stage_2}
-use Rattle.walk.specs.Steps.{most_by_stage_2, with_count, as_ended, ended}
+use Rattle.walk.specs.Steps.{most_by_stage_2, with_count, Ended, as_ended, ended}
 use Rattle.walk.proofs.Laws.Within.{Within, fetched_within, walk_within}
 
 abbrev pub LowResult : Stage2Result → Type 0
@@ -30,8 +30,8 @@ stage_2_short m b access ipa root =
 
 -- the same of what the code hands on
 abbrev pub LowEnd : ℕ → Ended → Type 0
-LowEnd n (Reached a k) = (a < address_end) × (k ≤ n + most_by_stage_2)
-LowEnd n (Failed kind level k) = k ≤ n + most_by_stage_2
+LowEnd n (Ok r) = (r.address < address_end) × (r.fetched ≤ n + most_by_stage_2)
+LowEnd n (Err e) = e.fetched ≤ n + most_by_stage_2
 
 low_end : (n k : ℕ) (r : Stage2Result) → LowResult r → k ≤ most_by_stage_2 → LowEnd n (as_ended r (n + k))
 low_end n k (reached a) h le = (h, omega arith)
@@ -43,6 +43,6 @@ ended_low n w h = low_end n (length w.fetched) w.result h.bounds h.few
 
 -- what a walk of stage 2 reached, with any access, is low, and it fetched few
 pub reached_low : (m : List ℕ) (b root access ipa n : ℕ) {way : Ended} → way ≡ ended n (stage_2 m b root access ipa)
-    → {a k : ℕ} → way ≡ Reached a k → (a < address_end) × (k ≤ n + most_by_stage_2)
+    → {r : Reached} → way ≡ Ok r → (r.address < address_end) × (r.fetched ≤ n + most_by_stage_2)
 reached_low m b root access ipa n walked e =
     subst (LowEnd n) (sym walked ∙ e) (ended_low n (stage_2 m b root access ipa) (stage_2_short m b access ipa root))

@@ -10,19 +10,20 @@ use Rattle.memory.specs.Ram.{address_end}
 use Rattle.walk_descriptor.specs.declared.FaultKind.{FaultKind}
 use Rattle.walk_descriptor.specs.declared.FaultKind.TheVariants.{WalkAbort}
 use Rattle.walk.specs.declared.Answer.{Answer}
-use Rattle.walk.specs.declared.Answer.TheVariants.{During}
-use Rattle.walk.specs.declared.Ended.{Ended}
-use Rattle.walk.specs.declared.Ended.TheVariants.{Reached, Failed}
-use Rattle.walk.specs.declared.LevelOutcome.{LevelOutcome}
-use Rattle.walk.specs.declared.LevelOutcome.TheVariants.{NextTable, Answered}
+use Rattle.std.specs.Prelude.{Ok, Err}
+use Rattle.std.specs.declared.ops.ControlFlow.TheVariants.{Continue, Break}
+use Rattle.walk.specs.declared.Answer.TheVariants.{Found, Fault, During}
+use Rattle.walk.specs.declared.stage_1.NextTable.{NextTable}
+use Rattle.walk.specs.declared.stage_2.Reached.{Reached}
+use Rattle.walk.specs.declared.stage_2.Failed.{Failed}
 use Rattle.walk_level.specs.declared.Step.{Step}
 use Rattle.walk_level.specs.declared.Step.TheVariants.{Absent, Down, Output, Fail}
-use Rattle.walk_descriptor.specs.Descriptor.{slot, allows, last_level, to_read, el0}
+use Rattle.walk_descriptor.specs.Descriptor.{slot, allows_1, allows_2, last_level, to_read}
 use Rattle.walk_level.specs.Stage.{Stage, meaning}
 use Rattle.walk.specs.Memory.{read_at}
 use Rattle.walk.specs.Both.{Walked, ends, fetched_at, Stage2Result, reached, failed, BothResult, found, fault, during, by_result, through, as_answer, as_answer_2, rules_1, rules_2, fetch_1, fetch_2, stage_1, stage_2}
 use Rattle.walk_level.specs.Step.{step_of}
-use Rattle.walk.specs.Steps.{most_by_stage_2, most_by_level, Finished, step_read, step_at, with_count, as_ended, ended, answered, from_table_1, from_table_2, from_descriptor_1, ComesTo, LevelComesTo}
+use Rattle.walk.specs.Steps.{most_by_stage_2, most_by_level, Ended, LevelOutcome, step_read, step_at, with_count, as_ended, ended, answered, from_table_1, from_table_2, from_descriptor_1, ComesTo, LevelComesTo}
 use Rattle.walk.proofs.Laws.OneLevel.{one_level, meaning_of_step, meaning_by_step}
 use Rattle.walk.proofs.Laws.Counts.{after_stage_2, count_more, count_now, answered_through}
 use Rattle.walk.proofs.Laws.Short.{LowEnd, ended_low, stage_2_short}
@@ -93,30 +94,45 @@ module _ {R A : Type 0} {say : R → ℕ → A} {fails : FaultKind → ℕ → R
 
 module _ (m : List ℕ) (b access ipa level table n : ℕ) where
   pub after_step_2 : level ≤ last_level → {a : ℕ} → a ≡ slot level ipa table → {x : Step}
-      → x ≡ step_at m b (allows 2 access el0) ipa level a
+      → x ≡ step_at m b (allows_2 access) ipa level a
       → AfterStep as_ended failed (λ o. ends (reached o)) (from_table_2 m b access ipa (last_level - (level + 1))) level n
       (ended n (from_table_2 m b access ipa (last_level - level) table)) x
-  unfolding rules_2 fetch_2 allows
+  unfolding rules_2 fetch_2
   after_step_2 le at {x} visited =
       let below = from_table_2 m b access ipa (last_level - (level + 1)) in
       subst (λ (whole : Ended). AfterStep as_ended failed (λ o. ends (reached o)) below level n whole x)
       (sym (ap (ended n) (one_level (rules_2 access) ipa (fetch_2 m b) level table le)))
-      (after_step_is as_ended failed (λ o. ends (reached o)) below level n (allows 2 access el0) ipa (slot level ipa table) m b le
-      (visited ∙ ap (step_at m b (allows 2 access el0) ipa level) at))
+      (after_step_is as_ended failed (λ o. ends (reached o)) below level n (allows_2 access) ipa (slot level ipa table) m b le
+      (visited ∙ ap (step_at m b (allows_2 access) ipa level) at))
+
+-- A turn of the loop of stage 2, which stands at a table from which the whole walk goes on as from its root.
+pub turn_2 : (m : List ℕ) (b access ipa level table before : ℕ) {whole : Ended}
+    → (level ≤ last_level) × (table < address_end)
+    × (whole ≡ ended (before + level) (from_table_2 m b access ipa (last_level - level) table))
+    → {a : ℕ} → a ≡ slot level ipa table → {x : Step} → x ≡ step_at m b (allows_2 access) ipa level a
+    → AfterStep as_ended failed (λ o. ends (reached o)) (from_table_2 m b access ipa (last_level - (level + 1))) level (before + level)
+    whole x
+turn_2 m b access ipa level table before stands at visited =
+    let here = after_step_2 m b access ipa level table (before + level) stands.0 at visited in
+    record { in_bounds = here.in_bounds; so = stands.2 ∙ here.so }
 
 pub from_root : (m : List ℕ) (b access ipa root before : ℕ)
     → ended before (stage_2 m b root access ipa) ≡ ended (before + 0) (from_table_2 m b access ipa 3 root)
 unfolding stage_2
 from_root m b access ipa root before = ap (λ (n : ℕ). ended n (from_table_2 m b access ipa 3 root)) (omega arith)
 
-finished : (r : Stage2Result) (k : ℕ) {x : Answer} → Finished (as_ended r k) x → x ≡ as_answer_2 r k
-finished (reached a) k h = h
-finished (failed kind level) k h = h
+-- stage 2 as the last part of a walk: its end is the answer
+abbrev pub told : Ended → Answer
+told (Ok r) = Found (r.address) (r.fetched)
+told (Err e) = Fault (e.kind) 2 (e.level) (e.fetched)
 
-pub at_last : (n : ℕ) (w : Walked Stage2Result) {end : Ended} {x : Answer} → end ≡ ended n w → Finished end x
-    → x ≡ with_count as_answer_2 n w
+told_so : (r : Stage2Result) (k : ℕ) → told (as_ended r k) ≡ as_answer_2 r k
+told_so (reached a) k = refl
+told_so (failed kind level) k = refl
+
+pub at_last : (n : ℕ) (w : Walked Stage2Result) {end : Ended} → end ≡ ended n w → told end ≡ with_count as_answer_2 n w
 unfolding with_count
-at_last n w {end} {x} e h = finished w.result (n + length w.fetched) (subst (λ (y : Ended). Finished y x) e h)
+at_last n w e = ap told e ∙ told_so w.result (n + length w.fetched)
 
 -- Stage 1: the descriptor's way through stage 2, and then the descriptor.
 
@@ -125,14 +141,14 @@ abbrev pub out_1 : List ℕ → ℕ → ℕ → ℕ → ℕ → Walked BothResul
 out_1 m b root2 access ipa = through (stage_2 m b root2 access ipa) (λ kind level. fault kind 2 level) (λ a. ends (found a))
 
 module _ (m : List ℕ) (b root2 access el va level : ℕ) where
-  pub after_step_1 : (n a : ℕ) → level ≤ last_level → {x : Step} → x ≡ step_at m b (allows 1 access el) va level a
+  pub after_step_1 : (n a : ℕ) → level ≤ last_level → {x : Step} → x ≡ step_at m b (allows_1 access el) va level a
       → AfterStep as_answer (λ kind l. fault kind 1 l) (out_1 m b root2 access)
       (from_table_1 m b root2 access el va (last_level - (level + 1))) level n
       (answered n (from_descriptor_1 m b root2 access el va level a)) x
-  unfolding from_descriptor_1 rules_1 allows
+  unfolding from_descriptor_1 rules_1
   after_step_1 n a le =
       after_step_is as_answer (λ kind l. fault kind 1 l) (out_1 m b root2 access)
-      (from_table_1 m b root2 access el va (last_level - (level + 1))) level n (allows 1 access el) va a m b le
+      (from_table_1 m b root2 access el va (last_level - (level + 1))) level n (allows_1 access el) va a m b le
 
   module _ (table n : ℕ) where
     -- where the way through stage 2 ended so
@@ -159,25 +175,26 @@ module _ {m : List ℕ} {b root2 access el va level table n : ℕ} {way : Ended}
   at_end : {end : Ended} → way ≡ end → Arrived m b root2 access el va level table n end
   at_end e = subst (Arrived m b root2 access el va level table n) e arrived
 
-  pub was_lost : {kind : FaultKind} {level2 k : ℕ} → way ≡ Failed kind level2 k
-      → answered n (from_table_1 m b root2 access el va (last_level - level) table) ≡ During kind level2 level k
+  pub was_lost : {f : Failed} → way ≡ Err f
+      → answered n (from_table_1 m b root2 access el va (last_level - level) table) ≡ During (f.kind) (f.level) level (f.fetched)
   was_lost e = (at_end e).so
 
-  way_low : {a k : ℕ} → way ≡ Reached a k → (a < address_end) × (k ≤ n + most_by_stage_2)
+  way_low : {r : Reached} → way ≡ Ok r → (r.address < address_end) × (r.fetched ≤ n + most_by_stage_2)
   way_low e = (at_end e).low
 
-  pub followed : {a k : ℕ} → way ≡ Reached a k → {x : LevelOutcome}
-      → LevelComesTo m b root2 access el va level (k + 1) (answered k (from_descriptor_1 m b root2 access el va level a)) x
+  pub followed : {r : Reached} → way ≡ Ok r → {x : LevelOutcome}
+      → LevelComesTo m b root2 access el va level (r.fetched + 1)
+      (answered (r.fetched) (from_descriptor_1 m b root2 access el va level (r.address))) x
       → LevelComesTo m b root2 access el va level (n + most_by_level)
       (answered n (from_table_1 m b root2 access el va (last_level - level) table)) x
-  followed {a} {k} e {x} turns = record { so = by_turn x turns.so }
+  followed {r} e {x} turns = record { so = by_turn x turns.so }
     where
-      by_turn : (y : LevelOutcome) → ComesTo m b root2 access el va level (k + 1)
-          (answered k (from_descriptor_1 m b root2 access el va level a)) y
+      by_turn : (y : LevelOutcome) → ComesTo m b root2 access el va level (r.fetched + 1)
+          (answered (r.fetched) (from_descriptor_1 m b root2 access el va level (r.address))) y
           → ComesTo m b root2 access el va level (n + most_by_level)
           (answered n (from_table_1 m b root2 access el va (last_level - level) table)) y
-      by_turn (Answered answer) h = h ∙ sym (at_end e).so
-      by_turn (NextTable t i) h = let low = (way_low e).1 in let few = h.2 in (h.0, h.1, omega arith, (at_end e).so ∙ h.3)
+      by_turn (Break answer) h = h ∙ sym (at_end e).so
+      by_turn (Continue next) h = let low = (way_low e).1 in let few = h.2 in (h.0, h.1, omega arith, (at_end e).so ∙ h.3)
 
 -- stage 2 as the last part of stage 1
 by_last : (r : Stage2Result) (k : ℕ) → answered k (by_result r (λ kind level. fault kind 2 level) (λ a. ends (found a))) ≡
@@ -197,12 +214,12 @@ module _ {m : List ℕ} {b root2 access el va level most : ℕ} {whole : Answer}
   at_turn : {y : LevelOutcome} → x ≡ y → ComesTo m b root2 access el va level most whole y
   at_turn e = (subst (LevelComesTo m b root2 access el va level most whole) e turns).so
 
-  pub was_answered : {answer : Answer} → x ≡ Answered answer → answer ≡ whole
+  pub was_answered : {answer : Answer} → x ≡ Break answer → answer ≡ whole
   was_answered e = at_turn e
 
-  pub went_on : {t k : ℕ} → x ≡ NextTable t k
-      → (level < last_level) × (t < address_end) × (k ≤ most)
-      × (whole ≡ answered k (from_table_1 m b root2 access el va (last_level - (level + 1)) t))
+  pub went_on : {next : NextTable} → x ≡ Continue next
+      → (level < last_level) × (next.table < address_end) × (next.fetched ≤ most)
+      × (whole ≡ answered (next.fetched) (from_table_1 m b root2 access el va (last_level - (level + 1)) (next.table)))
   went_on e = at_turn e
 
 pub answered_from : (m : List ℕ) (b root1 root2 va access el : ℕ)

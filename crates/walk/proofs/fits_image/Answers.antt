@@ -1,5 +1,4 @@
--- What memory tests, and the length.
-use Rattle.walk.specs.Memory.{image_fits}
+-- RAM that fits has few frames.
 use mathlib.Core.Path.{◌∙◌, sym}
 use Rattle.memory.proofs.Laws.Ram.{fits_so}
 use native.Mathlib.Omega.{arith}
@@ -7,17 +6,3 @@ use Rattle.walk.proofs.fits_image.Goals as goal
 
 pub overflow_mul-result : goal.overflow_mul-result
 overflow_mul-result c = omega (arith, (fits_so _ _ (sym c.ram_fits.ensures ∙ c.if-ram_fits.true)).most)
-
-pub returns-then-ram_fits : goal.returns-then-ram_fits
-unfolding image_fits
-returns-then-ram_fits c = simp (
-  sym c.ram_fits.ensures,
-  c.if-ram_fits.true,
-)
-
-pub returns : goal.returns
-unfolding image_fits
-returns c = simp (
-  sym c.ram_fits.ensures,
-  c.if-ram_fits.false,
-)

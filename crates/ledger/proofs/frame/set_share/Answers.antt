@@ -1,18 +1,6 @@
 -- The cell keeps its other number.
 use Rattle.ledger.proofs.Laws.Stores.{share_changed}
-use native.Mathlib.Omega.{arith}
 use Rattle.ledger.proofs.frame.set_share.Goals as goal
 
-pub cell-x-requires : goal.cell-x-requires
-cell-x-requires c = record { ledger_sound = c.requires.ledger_sound; f_bound = c.requires.f_bound; g_value = c.requires.g_value }
-
-pub set_cell-requires : goal.set_cell-requires
-set_cell-requires c = record {
-  ledger_sound = c.requires.ledger_sound;
-  f_bound = c.requires.f_bound;
-  g_value = c.requires.g_value;
-  c_bound = (omega arith, omega arith);
-}
-
 pub returns : goal.returns
-returns c = share_changed _ _ _ _ _ _ c.cell-x.ensures.1 c.set_cell.ensures
+returns c = share_changed _ _ _ _ _ _ _ c.from.ensures c.cell-theirs.ensures.count c.set_cell.ensures

@@ -1,47 +1,34 @@
--- By the word's place in the text.
-use mathlib.Core.Path.{◌∙◌}
-use Rattle.script_language.specs.Names.{command_table, operation_word, first_word}
-use Rattle.script_language.proofs.Laws.Names.{command_words, at_place, no_place}
+-- The table of the code is the definition's.
+use Rattle.std.proofs.Common.{rules, refl, Bor, ◌≡◌}
+use borrow.Author.Tests.{tests}
+use Rattle.std.specs.List.{find}
+use Rattle.std.specs.Option.{option_map}
+use Rattle.std.proofs.lemmas.Iterator.{YieldsList-from_slice}
+use Rattle.std.proofs.lemmas.Iterator.Search.{find_from_yields_List}
+use Rattle.script_language.specs.Names.{command_numbers, access_and_level, forms_of, operation_numbers}
+use Rattle.script_language.proofs.Laws.Names.{Row, IsTable, is_word, no_row, row_names, row_forms, row_few}
+use Rattle.script_language.proofs.names.first_word.Goals.{After-find}
 use Rattle.script_language.proofs.names.first_word.Goals as goal
 
-pub returns-in-0 : goal.returns-in-0
-unfolding first_word
-returns-in-0 c = (at_place command_table c.args.w.now (operation_word c.args.w.now) command_words c.word_index-k.ensures) c.in-0.is
+looked : (c : After-find) → option_map (λ (x : Bor Row). x.now) c.find.result ≡ find (is_word c.args.w.now) c.iter.result.rest.now
+looked c =
+    find_from_yields_List (is_word c.args.w.now) _ _ c.find.result c.find.ensures.ran
+    (YieldsList-from_slice c.iter.result.rest.now refl) (λ x b q k. search (rules, tests))
 
-pub returns-in-1 : goal.returns-in-1
-unfolding first_word
-returns-in-1 c = (at_place command_table c.args.w.now (operation_word c.args.w.now) command_words c.word_index-k.ensures) c.in-1.is
+table : (c : After-find) → IsTable c.iter.result.rest.now
+unfolding forms_of command_numbers access_and_level operation_numbers
+table c = rw c.iter.ensures.rest (record { entries = refl; forms = refl; few = refl })
 
-pub returns-in-2 : goal.returns-in-2
-unfolding first_word
-returns-in-2 c = (at_place command_table c.args.w.now (operation_word c.args.w.now) command_words c.word_index-k.ensures) c.in-2.is
+pub returns-in_err-name-clause-name : goal.returns-in_err-name-clause-name
+returns-in_err-name-clause-name c =
+    let s = (goal.at.returns-in_err-name-clause-name c).After-find in
+    rw c.from_residual.ensures (no_row _ _ (table s) _ (looked s) c.in_err-name.was)
 
-pub returns-in-3 : goal.returns-in-3
-unfolding first_word
-returns-in-3 c = (at_place command_table c.args.w.now (operation_word c.args.w.now) command_words c.word_index-k.ensures) c.in-3.is
+pub returns-clause-name : goal.returns-clause-name
+returns-clause-name c = let s = (goal.at.returns-clause-name c).After-find in row_names _ _ (table s) _ (looked s) c.in_ok-name.was
 
-pub returns-in-4 : goal.returns-in-4
-unfolding first_word
-returns-in-4 c = (at_place command_table c.args.w.now (operation_word c.args.w.now) command_words c.word_index-k.ensures) c.in-4.is
+pub returns-clause-forms : goal.returns-clause-forms
+returns-clause-forms c = let s = (goal.at.returns-clause-forms c).After-find in row_forms _ _ (table s) _ (looked s) c.in_ok-name.was
 
-pub returns-in-5 : goal.returns-in-5
-unfolding first_word
-returns-in-5 c = (at_place command_table c.args.w.now (operation_word c.args.w.now) command_words c.word_index-k.ensures) c.in-5.is
-
-pub returns-in-6 : goal.returns-in-6
-unfolding first_word
-returns-in-6 c = (at_place command_table c.args.w.now (operation_word c.args.w.now) command_words c.word_index-k.ensures) c.in-6.is
-
-pub returns-in-7 : goal.returns-in-7
-unfolding first_word
-returns-in-7 c = (at_place command_table c.args.w.now (operation_word c.args.w.now) command_words c.word_index-k.ensures) c.in-7.is
-
-pub returns-in-8 : goal.returns-in-8
-unfolding first_word
-returns-in-8 c = (at_place command_table c.args.w.now (operation_word c.args.w.now) command_words c.word_index-k.ensures) c.in-8.is
-
-pub returns-in_default : goal.returns-in_default
-unfolding first_word
-returns-in_default c = c.operation_word.ensures
-    ∙ (no_place command_table c.args.w.now (operation_word c.args.w.now) command_words c.word_index-k.ensures)
-    c.in_default.in_default-own.rest
+pub returns-clause-few : goal.returns-clause-few
+returns-clause-few c = let s = (goal.at.returns-clause-few c).After-find in row_few _ _ (table s) _ (looked s) c.in_ok-name.was

@@ -1,15 +1,8 @@
-use Prim.Native.Nat.{◌*◌, ◌-◌, ◌≤◌}
-use mathlib.Core.Path.{◌≡◌}
-use lib.ListN.{length}
+use Prim.Native.Nat.{◌*◌}
 use Rattle.script_text.specs.Wrote.{Wrote}
 use Rattle.ledger.specs.Layout.{state_of}
 use Rattle.script_print.specs.Frame.{line_bytes, lines_to}
 use Rattle.script_print.proofs.frames.put_ledger.Given as goal
 
 abbrev pub invariant-loop-f : goal.invariant-loop-f
-invariant-loop-f l =
-    (l.f ≤ l.n) × (length l.out ≡ length l.initial.out) × Wrote (line_bytes * l.f) l.initial.out l.at l.out l.next
-    (lines_to (state_of l.ram l.ledger) l.f)
-
-abbrev pub decreases-loop-f : goal.decreases-loop-f
-decreases-loop-f l = l.n - l.f
+invariant-loop-f l = Wrote (line_bytes * l.f) l.initial.out l.at l.out l.next (lines_to (state_of l.ram l.ledger) l.f)

@@ -1,16 +1,13 @@
--- What stands between from and i is of the word.
-use mathlib.Core.Path.{◌∙◌, sym}
-use Rattle.script_text.proofs.Laws.Scanning.{passed_none, passed_more, ended_blank, ended_last}
+use Rattle.std.proofs.Common.{rules, drop, ◌∙◌}
+use borrow.Author.Tests.{tests}
+use Rattle.std.proofs.lemmas.Iterator.{YieldsList-from_slice}
+use Rattle.std.proofs.lemmas.Iterator.Search.{position_from_yields_List}
+use Rattle.script_text.specs.Words.{is_blank}
+use Rattle.script_text.proofs.Laws.Scanning.{rest, word_ends}
 use Rattle.script_text.proofs.words.word_end.Goals as goal
 
-pub loop-i-init : goal.loop-i-init
-loop-i-init c = passed_none c.args.s.now c.args.from c.requires
-
-pub returns-then-is_blank : goal.returns-then-is_blank
-returns-then-is_blank c = ended_blank c.loop-i.invariant c.loop-i-test.true (sym c.if-is_blank.true ∙ c.is_blank.ensures)
-
-pub loop-i-preserved : goal.loop-i-preserved
-loop-i-preserved c = passed_more c.loop-i.invariant c.loop-i-test.true (sym c.if-is_blank.false ∙ c.is_blank.ensures)
-
 pub returns : goal.returns
-returns c = ended_last c.loop-i.invariant c.loop-i-test.false
+returns c = word_ends c.args.s.now c.args.from c.requires c.unwrap_or.ensures (
+    position_from_yields_List is_blank _ _ c.position.result c.position.ensures.ran
+    (YieldsList-from_slice (drop c.args.from c.args.s.now) (c.iter.ensures.rest ∙ rest c.args.from c.args.s.now))
+    (λ x b q k. search (rules, tests)))

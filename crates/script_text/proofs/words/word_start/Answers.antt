@@ -1,25 +1,14 @@
--- Only blanks were passed.
-use mathlib.Core.Path.{refl, ◌∙◌, sym}
-use Rattle.script_text.proofs.Laws.Scanning.{after_blanks_stop, after_blanks_more, after_blanks_last}
-use native.Mathlib.Omega.{arith}
+use Rattle.std.proofs.Common.{rules, drop, ◌∙◌}
+use borrow.Author.Tests.{tests}
+use mathlib.Core.Bool.{not}
+use Rattle.std.proofs.lemmas.Iterator.{YieldsList-from_slice}
+use Rattle.std.proofs.lemmas.Iterator.Search.{position_from_yields_List}
+use Rattle.script_text.specs.Words.{is_blank}
+use Rattle.script_text.proofs.Laws.Scanning.{rest, word_starts}
 use Rattle.script_text.proofs.words.word_start.Goals as goal
 
-pub loop-i-init : goal.loop-i-init
-loop-i-init c = (c.requires, refl)
-
-pub loop-i-preserved : goal.loop-i-preserved
-loop-i-preserved c = (
-  omega arith,
-  c.loop-i.invariant.1 ∙ after_blanks_more _ _ c.loop-i-test.true (sym c.if-is_blank.true
-      ∙ c.is_blank.ensures),
-)
-
-pub returns-else-is_blank : goal.returns-else-is_blank
-returns-else-is_blank c = (
-  omega arith,
-  after_blanks_stop _ _ c.loop-i-test.true (sym c.if-is_blank.false ∙ c.is_blank.ensures)
-      ∙ sym c.loop-i.invariant.1,
-)
-
 pub returns : goal.returns
-returns c = (omega arith, after_blanks_last _ _ c.loop-i-test.false ∙ sym c.loop-i.invariant.1)
+returns c = word_starts c.args.s.now c.args.from c.requires c.unwrap_or.ensures (
+    position_from_yields_List (λ b. not (is_blank b)) _ _ c.position.result c.position.ensures.ran
+    (YieldsList-from_slice (drop c.args.from c.args.s.now) (c.iter.ensures.rest ∙ rest c.args.from c.args.s.now))
+    (λ x b q k. search (rules, tests)))

@@ -1,2 +1,0 @@
--- What follows from the definitions, for the proofs of the code.
-pub mod Written
