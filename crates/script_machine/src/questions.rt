@@ -1,6 +1,6 @@
 // What is asked of the machine and changes nothing: the walks, and what the monitor tells.
-// Stays: access and el are numbers, as walk::stage2 and walk::both_stages take them, and any number; and walk_stage2 stands beside walk_both:
-// they call other functions with their own arguments.
+// Stays: access and el are numbers, as walk::stage2 and walk::both_stages take them, and any number; and walk_stage2 stands beside
+// walk_both, since they call other functions with their own arguments.
 ghost use Rattle.std.specs.Prelude.{◌≡◌, true, false};
 ghost use Rattle.ledger.specs.Layout.{state_of};
 ghost use Rattle.monitor_query.specs.Questions.{guest_told};

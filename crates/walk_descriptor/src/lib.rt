@@ -193,7 +193,8 @@ pub enum Wanted {
 }
 
 impl Wanted {
-    // Stays: of any numbers, for allowed and walk_level::examine (docs/DECISIONS.md, 61): one that is no stage is as 1, no kind of access as 2, no exception level as 0.
+    // Stays: of any numbers, for allowed and walk_level::examine (docs/DECISIONS.md, 61). One that is no stage is as 1, no kind of access
+    // as 2, no exception level as 0.
     pub fn of_numbers(stage: u64, access: u64, el: u64) -> Wanted
         ensures { rights_of result ≡ allows stage access el }
     {
