@@ -104,7 +104,7 @@ enum pageledger_kind {
  * 16 to 65,536 of them, `base` a multiple of 4,096, RAM's end at most 2^48, and `ram_length` 4,096 x `frames`. A root is the
  * address of a table of level 0, a multiple of 4,096 below 2^48; it need not lie in RAM. Where a number is none of these, the
  * answer is REFUSED. They never write RAM, and what they answer depends on the arguments and on the fetched descriptors alone.
- * What holds of the processor's registers where the answer is also the processor's: docs/DECISIONS.md. */
+ * What holds of the processor's registers where the answer is also the processor's: docs/TRUST.md, 11. */
 
 /* Stage 2 alone: what the guest-physical address `ipa` translates to under the tables at the physical address `root`, for an
  * access of the kind `access`. An `ipa` of 2^48 or more is REFUSED.

@@ -51,7 +51,7 @@ ROOT = 2
 abbrev pub YES : ℕ
 YES = 1
 
--- A frame: what it is (model's kind-number); the guest; a table's height; the range that it serves, below 2^27.
+-- A frame: what it is (model's kind_number); the guest; a table's height; the range that it serves, below 2^27.
 abbrev pub KIND : ℕ
 KIND = 0
 

@@ -20,7 +20,7 @@ frames l = cell HEADER_WORDS room_for_frames l
 abbrev pub guest_rows : List ℕ → (column g : ℕ) → ℕ
 guest_rows l = cell 0 GUEST_ROWS l
 
--- the numbers of what a frame is are those of model's kind-number
+-- the numbers of what a frame is are those of model's kind_number
 unfoldable pub kind_at : (k g h p : ℕ) → KindOfFrame
 kind_at k g h p =
     cond (eqb k FREE) free (

@@ -1,4 +1,4 @@
--- RAM by frames: where a frame lies in it. The words of a frame: word-of, in Layout.
+-- RAM by frames: where a frame lies in it. The words of a frame: word_of, in Layout.
 use Rattle.std.specs.Prelude.{List, ℕ, ◌+◌, ◌*◌, ◌≤◌, length}
 
 -- frame f lies in RAM

@@ -1,5 +1,5 @@
 -- Document 01, section 1: RAM is a slice of bytes, and a descriptor is the 64-bit number of eight of them, "lowest byte first".
--- Callers cite the laws of specs/Laws.antt and open no definition.
+-- Callers cite the laws of proofs/Laws and open no definition.
 use Rattle.std.specs.Prelude.{ℕ, zero, suc, ◌+◌, ◌*◌, ◌/◌, ◌%◌, ◌^◌, List, get_or, set}
 
 -- the number whose lowest byte is at `at`

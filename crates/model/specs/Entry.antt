@@ -1,5 +1,5 @@
 -- Document 03, section 3, last bullet: the entries that the monitor writes, and how it reads them back.
--- A number that is none of these is `other`. The reading needs no level, and loses nothing (entry-number in proofs/Laws/Entry).
+-- A number that is none of these is `other`. The reading needs no level, and loses nothing (entry_number in proofs/Laws/Entry).
 use Rattle.std.specs.Prelude.{cond, ℕ, ◌+◌, ◌*◌, ◌-◌, ◌/◌, ◌%◌, eqb}
 use Rattle.model.specs.State.{page_count, WRITE, EXECUTE}
 

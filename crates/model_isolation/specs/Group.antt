@@ -1,6 +1,5 @@
 -- The loop closed for a group of spaces, each with a program of its own: guests that share pages with one another. Of members' stores
--- nothing
--- is assumed; where whoever may write what a member reads is a member, of guests' stores nothing at all (outsiders-leave).
+-- nothing is assumed; where whoever may write what a member reads is a member, of guests' stores nothing at all (outsiders_leave).
 use Rattle.std.specs.Prelude.{◌≡◌, refl, [], ℕ}
 use Rattle.model_moves.specs.Machine.{Machine}
 use Rattle.model_moves.specs.Terms.{Bounded, Start}

@@ -89,7 +89,7 @@ Released s f = (((g : ℕ) × (s.kind f ≡ draining g)) ⊎ ((c h p : ℕ) × (
 abbrev pub turned : Spaces → (P : ℕ → Bool) (K : FrameUse) → Spaces
 turned s P x = with_kind s (λ f. cond (P f) x (s.kind f))
 
--- open-space: space c begins. Its root is free frames with nothing in them; nothing is left of a space of this number;
+-- open_space: space c begins. Its root is free frames with nothing in them; nothing is left of a space of this number;
 -- nothing is shared with it; and a guest begins with no page.
 pub record Open (s : Spaces) (c : ℕ) (n : Space) : Type 0 where
   pub new : exists s c ≡ false

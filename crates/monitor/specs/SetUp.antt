@@ -1,4 +1,4 @@
--- Set-up, which counts on nothing: what fits, and the two slices after it.
+-- Set-up, which counts on nothing that the slices hold: what fits, and the two slices after it.
 use Rattle.std.specs.Prelude.{◌≡◌, Bool, ◌&&◌, List, ℕ, ◌*◌, eqb, length}
 use Rattle.memory.specs.Ram.{frame_bytes}
 use Rattle.model.specs.Operations.{Out, set_up}

@@ -1,4 +1,4 @@
-// Set-up. It counts on nothing, and RAM it only looks at.
+// Set-up. It counts on nothing that the slices hold, and RAM it only looks at. What caches may keep then is the host's (docs/TRUST.md, 9).
 ghost use Rattle.std.specs.Prelude.{◌≡◌, ◌≤◌};
 ghost use Rattle.memory.specs.Ram.{most_frames};
 ghost use Rattle.model.specs.Operations.{refusal};

@@ -1,4 +1,4 @@
--- open-space: a space begins.
+-- open_space: a space begins.
 use mathlib.Core.Path.{◌≡◌, refl, sym, ap, ◌∙◌}
 use mathlib.Core.Bool.{Bool, true, false, true≢false, cond}
 use mathlib.Core.Logic.{◌⊎◌, inl, inr}
