@@ -3,12 +3,22 @@ pub const DONE: u64 = 0;
 
 pub const SHORT: u64 = 64;
 
-// How many numbers an answer has: of a walk, of a frame, of a guest.
+// The places of a walk's answer, and how many they are.
+pub const ANSWER_WHAT: usize = 0;
+
+pub const ANSWER_ADDRESS: usize = 1;
+
+pub const ANSWER_KIND: usize = 2;
+
+pub const ANSWER_STAGE: usize = 3;
+
+pub const ANSWER_LEVEL: usize = 4;
+
+pub const ANSWER_OF: usize = 5;
+
+pub const ANSWER_FETCHED: usize = 6;
+
 pub const ANSWER_NUMBERS: usize = 7;
-
-pub const FRAME_NUMBERS: usize = 3;
-
-pub const GUEST_NUMBERS: usize = 3;
 
 pub const FOUND: u64 = 0;
 
@@ -27,6 +37,17 @@ pub const NOT_MODELLED: u64 = 3;
 pub const ACCESS_FLAG: u64 = 4;
 
 pub const PERMISSION: u64 = 5;
+
+// The places of an answer about a frame, and how many they are; those of one about a guest are the same three.
+pub const FRAME_WHAT: usize = 0;
+
+pub const FRAME_GUEST: usize = 1;
+
+pub const FRAME_PLACES: usize = 2;
+
+pub const FRAME_NUMBERS: usize = 3;
+
+pub const GUEST_NUMBERS: usize = 3;
 
 pub const FRAME_OUTSIDE: u64 = 0;
 
