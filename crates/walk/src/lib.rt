@@ -3,10 +3,9 @@
 // Stays: level ≤ last_level in each contract inside, as in walk_level.
 #![tactic(auto)]
 
-ghost use Rattle.std.specs.Prelude.{◌≡◌, ◌&&◌, ltb};
-ghost use Rattle.memory.specs.Ram.{address_end};
+ghost use Rattle.std.specs.Prelude.{◌≡◌};
 ghost use Rattle.walk.specs.Memory.{image_fits};
-ghost use Rattle.walk.specs.Both.{root_fits, answer_2, answer};
+ghost use Rattle.walk.specs.Both.{root_fits, stage2_fits, both_fits, answer_2, answer};
 
 use stage_1::Sought;
 use stage_2::Tables;
@@ -57,17 +56,34 @@ fn fits_root(root: u64) -> bool
     root % memory::FRAME_BYTES == 0 && root < memory::ADDRESS_END
 }
 
-// Section 5: which numbers are not refused, but for the kind of access and the exception level.
-fn fits_stage2(len: usize, base: u64, frames: u64, root: u64, ipa: u64) -> bool
-    ensures { result ≡ (image_fits len base frames && (root_fits root && ltb ipa address_end)) }
+// Section 5: which numbers are not refused.
+#[tactic(auto, using(crate::proofs::Laws::Arguments::access_known), unfolding(crate::specs::Both::stage2_fits))]
+fn fits_stage2(len: usize, base: u64, frames: u64, root: u64, ipa: u64, access: u64) -> bool
+    ensures { result ≡ stage2_fits len base frames root ipa access }
 {
-    fits_image(len, base, frames) && fits_root(root) && ipa < memory::ADDRESS_END
+    fits_image(len, base, frames)
+        && fits_root(root)
+        && Access::try_from(access).is_ok()
+        && ipa < memory::ADDRESS_END
 }
 
-fn fits_both(len: usize, base: u64, frames: u64, root1: u64, root2: u64) -> bool
-    ensures { result ≡ (image_fits len base frames && (root_fits root1 && root_fits root2)) }
+#[tactic(auto, using(crate::proofs::Laws::Arguments::access_known, crate::proofs::Laws::Arguments::level_known), unfolding(crate::specs::Both::both_fits))]
+fn fits_both(
+    len: usize,
+    base: u64,
+    frames: u64,
+    root1: u64,
+    root2: u64,
+    access: u64,
+    el: u64,
+) -> bool
+    ensures { result ≡ both_fits len base frames root1 root2 access el }
 {
-    fits_image(len, base, frames) && fits_root(root1) && fits_root(root2)
+    fits_image(len, base, frames)
+        && fits_root(root1)
+        && fits_root(root2)
+        && Access::try_from(access).is_ok()
+        && ExceptionLevel::try_from(el).is_ok()
 }
 
 // Stage 2 alone: access is 0 to read, 1 to write, 2 to execute.
@@ -76,8 +92,8 @@ pub fn stage2(ram: &[u8], base: u64, frames: u64, root: u64, ipa: u64, access: u
     ensures { result ≡ answer_2 ram.now base frames root ipa access }
 {
     match Access::try_from(access) {
-        Ok(access) if fits_stage2(ram.len(), base, frames, root, ipa) => {
-            Tables { base, root }.answer(ram, access, ipa, 0)
+        Ok(kind) if fits_stage2(ram.len(), base, frames, root, ipa, access) => {
+            Tables { base, root }.answer(ram, kind, ipa, 0)
         }
         _ => Answer::Refused,
     }
@@ -97,12 +113,12 @@ pub fn both_stages(
     ensures { result ≡ answer ram.now base frames root1 root2 va access el }
 {
     match (Access::try_from(access), ExceptionLevel::try_from(el)) {
-        (Ok(access), Ok(el)) if fits_both(ram.len(), base, frames, root1, root2) => {
+        (Ok(kind), Ok(from)) if fits_both(ram.len(), base, frames, root1, root2, access, el) => {
             let stage_2 = Tables { base, root: root2 };
             Sought {
                 stage_2,
-                access,
-                el,
+                access: kind,
+                el: from,
                 va,
             }
             .both(ram, root1)

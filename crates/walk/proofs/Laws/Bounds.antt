@@ -11,10 +11,10 @@ use Rattle.memory.specs.Ram.{frame_bytes, address_end}
 use Rattle.walk_descriptor.specs.declared.FaultKind.TheVariants.{Translation, NotModelled, AccessFlag, Permission}
 use Rattle.walk_level.specs.declared.Step.{Step}
 use Rattle.walk_level.specs.declared.Step.TheVariants.{Absent, Down, Output, Fail}
-use Rattle.walk.specs.Memory.{read_at}
-use Rattle.walk_descriptor.specs.Descriptor.{span, bit, address, is_table, is_valid, is_modelled, last_level, bits_50_to_48, low_bits}
+use Rattle.walk.specs.Memory.{image_fits, read_at}
+use Rattle.walk_descriptor.specs.Descriptor.{span, bit, address, is_table, is_valid, is_modelled, last_level, kinds_of_access, exception_levels, bits_50_to_48, low_bits}
 use Rattle.walk_level.specs.Stage.{valid, leaf, meaning}
-use Rattle.walk.specs.Both.{root_fits}
+use Rattle.walk.specs.Both.{root_fits, stage2_fits, both_fits}
 use Rattle.walk_level.specs.Step.{step_of}
 use Rattle.walk.specs.Steps.{step_read, step_at}
 
@@ -84,3 +84,19 @@ step_in_bounds m b rights ia level a le = step_read_in_bounds rights ia level le
 pub root_low : (root : ℕ) → root_fits root ≡ true → root < address_end
 unfolding root_fits
 root_low root e = ltb-true root address_end (and_right (eqb (root % frame_bytes) 0) (ltb root address_end) e)
+
+-- the roots of a walk whose arguments fit
+pub stage2_root : (len b n root ipa access : ℕ) → stage2_fits len b n root ipa access ≡ true → root < address_end
+unfolding stage2_fits
+stage2_root len b n root ipa access e =
+    let roots = and_right (image_fits len b n) (root_fits root && (ltb access kinds_of_access && ltb ipa address_end)) e in
+    root_low root (and_left (root_fits root) (ltb access kinds_of_access && ltb ipa address_end) roots)
+
+pub both_roots : (len b n root1 root2 access el : ℕ) → both_fits len b n root1 root2 access el ≡ true
+    → (root1 < address_end) × (root2 < address_end)
+unfolding both_fits
+both_roots len b n root1 root2 access el e =
+    let rest = ltb access kinds_of_access && ltb el exception_levels in
+    let roots = and_right (image_fits len b n) (root_fits root1 && (root_fits root2 && rest)) e in
+    let second = and_right (root_fits root1) (root_fits root2 && rest) roots in
+    (root_low root1 (and_left (root_fits root1) (root_fits root2 && rest) roots), root_low root2 (and_left (root_fits root2) rest second))

@@ -15,7 +15,7 @@ both-requires c = (low c.args.ram.now c.args.base c.args.frames c.args.root1 c.a
 
 pub returns-in-Ok-Ok : goal.returns-in-Ok-Ok
 returns-in-Ok-Ok c = c.both.ensures
-    ∙ asked _ _ _ _ _ _ _ _ c.in-Ok-Ok.access c.in-Ok-Ok.ensures c.in-Ok-Ok.el c.in-Ok-Ok.ensures'
+    ∙ asked _ _ _ _ _ _ _ _ c.in-Ok-Ok.kind c.in-Ok-Ok.ensures c.in-Ok-Ok.from c.in-Ok-Ok.ensures'
     (sym c.fits_both.ensures ∙ c.if-fits_both.true)
 
 pub returns-in_default : goal.returns-in_default

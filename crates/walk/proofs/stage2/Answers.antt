@@ -11,7 +11,7 @@ invariant_of-answer c = record {
 
 pub returns-in-Ok : goal.returns-in-Ok
 returns-in-Ok c = c.answer.ensures
-    ∙ asked_2 _ _ _ _ _ _ c.in-Ok.access c.in-Ok.ensures (sym c.fits_stage2.ensures ∙ c.if-fits_stage2.true)
+    ∙ asked_2 _ _ _ _ _ _ c.in-Ok.kind c.in-Ok.ensures (sym c.fits_stage2.ensures ∙ c.if-fits_stage2.true)
 
 pub returns-in_default : goal.returns-in_default
 returns-in_default c = unfit_2 _ _ _ _ _ _ (sym c.fits_stage2.ensures ∙ c.if-fits_stage2.false)
