@@ -144,8 +144,8 @@ impl From<NumberError> for Reason {
 fn read_command(word: &[u8], s: &[u8]) -> Result<Command, Reason>
     ensures { result ≡ read_command (first_word_of word.now) s.now }
 {
-    let (name, forms) = first_word(word).ok_or(Reason::UnknownCommand)?;
-    read_arguments(name, forms, s)
+    let name = first_word(word).ok_or(Reason::UnknownCommand)?;
+    read_arguments(name, s)
 }
 
 // The words of a line's text.

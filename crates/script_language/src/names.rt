@@ -1,5 +1,5 @@
 // A line's first word: which command it asks for, what arguments follow, and the command that they make.
-ghost use Rattle.std.specs.Prelude.{◌≡◌, ◌≤◌, length, option_map, IfSome};
+ghost use Rattle.std.specs.Prelude.{◌≡◌, ◌≤◌, length};
 ghost use Rattle.script_language.specs.Names.{first_word, forms_of, command_numbers, access_and_level, most_arguments, argument_at, operation_with, command_with};
 
 use crate::{Command, MOST_ARGUMENTS, Operation, Question};
@@ -10,6 +10,7 @@ use Form::{Access, Level, Number};
 use OperationName::{
     Creating, Destroying, Giving, Invalidating, Mapping, Sharing, Taking, Unmapping, Unsharing,
 };
+use script_text::words::same_text;
 
 // A command by its first word.
 #[derive(Clone, Copy)]
@@ -48,36 +49,56 @@ pub enum Form {
     Level,
 }
 
-// Each word, what it names, and what follows it (docs/SCRIPT.md).
-const COMMANDS: [(&[u8], CommandName, &[Form]); 18] = [
-    (b"setup", Setup, &[Number; 3]),
-    (b"word", Word, &[Number; 2]),
-    (b"peek", Peek, &[Number; 1]),
-    (b"stage2", Stage2, &[Number, Number, Access]),
-    (b"walk", Walk, &[Number, Number, Number, Access, Level]),
-    (b"translate", Translation, &[Number, Number, Access]),
-    (b"frame", OneFrame, &[Number; 1]),
-    (b"guest", OneGuest, &[Number; 1]),
-    (b"ledger", WholeLedger, &[]),
-    (b"create", Operating(Creating), &[Number; 1]),
-    (b"give", Operating(Giving), &[Number; 2]),
-    (b"map", Operating(Mapping), &[Number; 4]),
-    (b"unmap", Operating(Unmapping), &[Number; 2]),
-    (b"share", Operating(Sharing), &[Number; 4]),
-    (b"unshare", Operating(Unsharing), &[Number; 3]),
-    (b"take", Operating(Taking), &[Number; 2]),
-    (b"destroy", Operating(Destroying), &[Number; 1]),
-    (b"invalidated", Operating(Invalidating), &[Number; 1]),
+// Each word, and what it names (docs/SCRIPT.md).
+const COMMANDS: [(&[u8], CommandName); 18] = [
+    (b"setup", Setup),
+    (b"word", Word),
+    (b"peek", Peek),
+    (b"stage2", Stage2),
+    (b"walk", Walk),
+    (b"translate", Translation),
+    (b"frame", OneFrame),
+    (b"guest", OneGuest),
+    (b"ledger", WholeLedger),
+    (b"create", Operating(Creating)),
+    (b"give", Operating(Giving)),
+    (b"map", Operating(Mapping)),
+    (b"unmap", Operating(Unmapping)),
+    (b"share", Operating(Sharing)),
+    (b"unshare", Operating(Unsharing)),
+    (b"take", Operating(Taking)),
+    (b"destroy", Operating(Destroying)),
+    (b"invalidated", Operating(Invalidating)),
 ];
 
-// The command or operation that a line's first word names, and what follows the word.
-pub fn first_word(w: &[u8]) -> Option<(CommandName, &'static [Form])>
-    ensures name { option_map (λ found. found.0) result ≡ first_word w.now }
-    ensures forms { IfSome result (λ found. found.1.now ≡ forms_of (command_numbers found.0) (access_and_level found.0)) }
-    ensures few { IfSome result (λ found. length found.1.now ≤ most_arguments) }
+// The command or operation that a line's first word names.
+pub fn first_word(w: &[u8]) -> Option<CommandName>
+    ensures { result ≡ first_word w.now }
 {
-    let (_, name, forms) = COMMANDS.iter().find(|(word, ..)| w == *word)?;
-    Some((*name, *forms))
+    let (_, name) = COMMANDS.iter().find(|(word, _)| same_text(w, *word))?;
+    Some(*name)
+}
+
+// What follows a command's word.
+#[tactic(auto, unfolding(crate::specs::Names::forms_of, crate::specs::Names::command_numbers, crate::specs::Names::operation_numbers, crate::specs::Names::access_and_level))]
+pub fn forms(name: CommandName) -> &'static [Form]
+    ensures forms { result.now ≡ forms_of (command_numbers name) (access_and_level name) }
+    ensures few { length result.now ≤ most_arguments }
+{
+    match name {
+        Setup => &[Number; 3],
+        Word => &[Number; 2],
+        Peek => &[Number; 1],
+        Stage2 | Translation => &[Number, Number, Access],
+        Walk => &[Number, Number, Number, Access, Level],
+        OneFrame | OneGuest => &[Number; 1],
+        WholeLedger => &[],
+        Operating(Creating | Destroying | Invalidating) => &[Number; 1],
+        Operating(Giving | Unmapping | Taking) => &[Number; 2],
+        Operating(Unsharing) => &[Number; 3],
+        Operating(Mapping) => &[Number; 4],
+        Operating(Sharing) => &[Number; 4],
+    }
 }
 
 // An operation with its arguments, in the script's order.

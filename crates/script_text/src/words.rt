@@ -57,7 +57,7 @@ pub fn word_end(s: &[u8], from: usize) -> usize
     from + rest.iter().position(|&c| is_blank(c)).unwrap_or(rest.len())
 }
 
-// Stays: docs/assurance/functions.md names it; what compares two texts here writes `==`.
+// What looks a word up goes through this (script_language).
 #[tactic(auto, using(crate::proofs::Laws::Scanning::same_bytes))]
 pub fn same_text(a: &[u8], b: &[u8]) -> bool
     ensures { result ≡ same_text a.now b.now }

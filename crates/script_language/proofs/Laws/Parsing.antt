@@ -86,7 +86,7 @@ wrong_word v {fs} {s} {a} {at} {i} {from} {to} {x} {r} p h le some u w e k =
     rw (p.so_far, values_at fs i s at from to x h le some u w e, k)
 
 pub reading_more : {fs : List Form} {s a : List ℕ} {at i from to : ℕ} {x : Result ℕ Reason} {n : ℕ}
-    → Reading fs s a at i → i < length fs → length fs ≤ most_arguments
+    → Reading fs s a at i → i < length fs → i < most_arguments
     → from ≤ length s → (from ≡ length s → ⊥)
     → drop from s ≡ after_blanks (drop at s) → WordEnds s from to
     → x ≡ read_argument (get_or fs i Number) (take (to - from) (drop from s)) → x ≡ Ok n

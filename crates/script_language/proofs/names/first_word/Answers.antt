@@ -5,8 +5,7 @@ use Rattle.std.specs.List.{find}
 use Rattle.std.specs.Option.{option_map}
 use Rattle.std.proofs.lemmas.Iterator.{YieldsList-from_slice}
 use Rattle.std.proofs.lemmas.Iterator.Search.{find_from_yields_List}
-use Rattle.script_language.specs.Names.{command_numbers, access_and_level, forms_of, operation_numbers}
-use Rattle.script_language.proofs.Laws.Names.{Row, IsTable, is_word, no_row, row_names, row_forms, row_few}
+use Rattle.script_language.proofs.Laws.Names.{Row, IsTable, is_word, no_row, row_names}
 use Rattle.script_language.proofs.names.first_word.Goals.{After-find}
 use Rattle.script_language.proofs.names.first_word.Goals as goal
 
@@ -16,19 +15,12 @@ looked c =
     (YieldsList-from_slice c.iter.result.rest.now refl) (λ x b q k. search (rules, tests))
 
 table : (c : After-find) → IsTable c.iter.result.rest.now
-unfolding forms_of command_numbers access_and_level operation_numbers
-table c = rw c.iter.ensures.rest (record { entries = refl; forms = refl; few = refl })
+table c = rw c.iter.ensures.rest refl
 
-pub returns-in_err-name-clause-name : goal.returns-in_err-name-clause-name
-returns-in_err-name-clause-name c =
-    let s = (goal.at.returns-in_err-name-clause-name c).After-find in
+pub returns-in_err-name : goal.returns-in_err-name
+returns-in_err-name c =
+    let s = (goal.at.returns-in_err-name c).After-find in
     rw c.from_residual.ensures (no_row _ _ (table s) _ (looked s) c.in_err-name.was)
 
-pub returns-clause-name : goal.returns-clause-name
-returns-clause-name c = let s = (goal.at.returns-clause-name c).After-find in row_names _ _ (table s) _ (looked s) c.in_ok-name.was
-
-pub returns-clause-forms : goal.returns-clause-forms
-returns-clause-forms c = let s = (goal.at.returns-clause-forms c).After-find in row_forms _ _ (table s) _ (looked s) c.in_ok-name.was
-
-pub returns-clause-few : goal.returns-clause-few
-returns-clause-few c = let s = (goal.at.returns-clause-few c).After-find in row_few _ _ (table s) _ (looked s) c.in_ok-name.was
+pub returns : goal.returns
+returns c = let s = (goal.at.returns c).After-find in row_names _ _ (table s) _ (looked s) c.in_ok-name.was
