@@ -39,6 +39,8 @@ fn shares(how: Shared, rights: Rights) -> bool
     }
 }
 
+// Stays in map: a call of its own made a refused map take a fifth more instructions (docs/DESIGN-PASS.md).
+#[inline(always)]
 #[tactic(auto, using(crate::proofs::Laws::Map::shares_known))]
 fn may_map(ledger: &[u32], f: u64, g: u64, rights: Rights) -> bool
     requires ledger_sound { LedgerSound ledger.now }
