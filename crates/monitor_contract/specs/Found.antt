@@ -4,6 +4,7 @@ use Rattle.std.proofs.Math.Option.{Option}
 use Rattle.walk.specs.Both.{stage_2}
 use Rattle.model.specs.State.{page_count}
 use Rattle.model.specs.Translate.{Page, translate}
+use Rattle.model.specs.Operations.{Out, refuse}
 use Rattle.model.specs.Cache.{Access}
 use Rattle.model.specs.Machine as M
 use Rattle.model.specs.Terms.{expected}
@@ -24,3 +25,7 @@ Translates o m l m' l' = (h v : ℕ) → v < page_count → translate (state_of 
 abbrev pub Finds : (g a : ℕ) → Option Page → (ram ledger : List ℕ) → Type 0
 Finds g a o m l = (k : ℕ) → k < 4096 → (w : Access) → (stage_2 m (base_of l) (base_of l + 4096 * root_of l g) (access w) (a + k)).result ≡
     comes (base_of l) k 0 w o
+
+-- no refusal is 0
+abbrev pub Nonzero : Out → Type 0
+Nonzero o = (k : ℕ) → o ≡ refuse k → k ≡ 0 → ⊥

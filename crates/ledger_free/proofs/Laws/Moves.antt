@@ -9,7 +9,7 @@ use lib.Dec.{eqb, ltb}
 use lib.ListN.{length}
 use borrow.Author.Tests.{eq-eqb, eqb-true}
 use Rattle.model.specs.Base.{upd, upd2}
-use Rattle.model.specs.State.{MONITOR, FREE, TABLE, PAGE, DRAINING_PAGE, KindOfFrame, free, table, page, is_free}
+use Rattle.model.specs.State.{MONITOR, FREE, TABLE, PAGE, DRAINING_PAGE, KindOfFrame, free, table, page, is_free, DRAINING_TABLE}
 use Rattle.model.specs.Changes.{drained, released}
 use Rattle.ledger.specs.Cells.{store}
 use Rattle.ledger.specs.Layout.{Row, frames, guest_rows, kind_at, size_in, pick_in, pick_of, size_of, kind_of, state_in, state_of}
@@ -237,6 +237,17 @@ module _ (l : List ℕ) (s : LedgerSound l) (f : ℕ) (hf : f < size_of l) where
           ap (λ (K : ℕ → KindOfFrame). remade (state_of ram l) K (state_of ram l).shared (state_of ram l).count (state_of ram l).exists
           (state_of ram l).root (state_of ram l).dirty (state_of ram l).word) (ap (upd (kind_of l) f) e ∙ upd_self (kind_of l) f)
 
+  -- by the number k that the ledger has of f for guest g
+  pub drain_none : (g k : ℕ) → k ≡ kind_for old_frames f g → (k ≡ TABLE → ⊥) → (k ≡ PAGE → ⊥) →
+      Changed (with_kind_by f (drained g)) l l
+  drain_none g k ek a b = unturned _ (rw (kind_here old_frames old_guests f hf)
+      (stays (old_frames GUEST f) (old_frames HEIGHT f) (old_frames RANGE f) g (old_frames KIND f) (λ e. a (ek ∙ e)) (λ e. b (ek ∙ e))))
+
+  pub release_none : (g k : ℕ) → k ≡ kind_for old_frames f g → (k ≡ DRAINING_TABLE → ⊥) → (k ≡ DRAINING_PAGE → ⊥) →
+      Changed (with_kind_by f (released g)) l l
+  release_none g k ek a b = unturned _ (rw (kind_here old_frames old_guests f hf)
+      (remains (old_frames GUEST f) (old_frames HEIGHT f) (old_frames RANGE f) g (old_frames KIND f) (λ e. a (ek ∙ e)) (λ e. b (ek ∙ e))))
+
   -- by the kind k that the code has read of f for guest g, from the number n
   module _ (g n : ℕ) (k : Kind) (en : n ≡ kind_for old_frames f g) (named : kind_code k ≡ known_kind n) where
     ek : kind_code k ≡ known_kind (kind_for old_frames f g)
@@ -262,9 +273,8 @@ module _ (l : List ℕ) (s : LedgerSound l) (f : ℕ) (hf : f < size_of l) where
         φ (kind_of l f) ≡ y
     known φ j y e pos x = let a = is_it j e pos in rw (kind_here old_frames old_guests f hf, a.1) (x a.0)
 
-    pub drain_none : (k ≡ Table → ⊥) → (k ≡ Page → ⊥) → Changed (with_kind_by f (drained g)) l l
-    drain_none a b = unturned _ (rw (kind_here old_frames old_guests f hf)
-        (stays (old_frames GUEST f) (old_frames HEIGHT f) (old_frames RANGE f) g (old_frames KIND f) (other Table a) (other Page b)))
+    pub not_drained : (k ≡ Table → ⊥) → (k ≡ Page → ⊥) → Changed (with_kind_by f (drained g)) l l
+    not_drained a b = drain_none g _ refl (other Table a) (other Page b)
 
     -- it becomes a kind that is not free
     drain_as : (j i : Kind) {d : ℕ} {l' : List ℕ} → k ≡ j → FREE < kind_code j → FREE < kind_code i →
@@ -285,10 +295,8 @@ module _ (l : List ℕ) (s : LedgerSound l) (f : ℕ) (hf : f < size_of l) where
         (rw e at ed) x
     drain_one (inr e) ed x = drain_as Page DrainingPage e (omega arith) (omega arith) (λ t. unfold kind_at drained in rw t) (rw e at ed) x
 
-    pub release_none : (k ≡ DrainingTable → ⊥) → (k ≡ DrainingPage → ⊥) → Changed (with_kind_by f (released g)) l l
-    release_none a b = unturned _ (rw (kind_here old_frames old_guests f hf)
-        (remains (old_frames GUEST f) (old_frames HEIGHT f) (old_frames RANGE f) g (old_frames KIND f) (other DrainingTable a)
-        (other DrainingPage b)))
+    pub not_released : (k ≡ DrainingTable → ⊥) → (k ≡ DrainingPage → ⊥) → Changed (with_kind_by f (released g)) l l
+    not_released a b = release_none g _ refl (other DrainingTable a) (other DrainingPage b)
 
     pub not_free : (k ≡ DrainingTable) ⊎ (k ≡ DrainingPage) → is_free (kind_of l f) ≡ false
     not_free (inl e) = known is_free DrainingTable false e (omega arith) (λ _. unfold kind_at in refl)

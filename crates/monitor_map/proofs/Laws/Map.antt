@@ -38,8 +38,8 @@ use Rattle.model.proofs.Invariant.RoundTrip.{after_map}
 use Rattle.monitor_contract.specs.declared.refusals.Refusal.{Refusal}
 use Rattle.monitor_contract.specs.Refusals.{refusal_number}
 use Rattle.monitor_contract.proofs.Laws.Refusals.{positive}
-use Rattle.monitor_contract.specs.Found.{Translates, Finds}
-use Rattle.monitor_contract.proofs.Laws.Found.{finds_asked}
+use Rattle.monitor_contract.specs.Found.{Translates, Finds, Nonzero}
+use Rattle.monitor_contract.proofs.Laws.Found.{finds_asked, tested, was_done}
 use Rattle.monitor_tables.specs.NewTable.{Growing}
 use Rattle.monitor_map.specs.Map.{mapping, six, asked, first_refusal, Granted, Ready}
 
@@ -229,3 +229,13 @@ module _ {m l m' l' : List ℕ} (ok : Sound m l) where
     pub map_found : Finds g a (some (f, r)) m' l'
     map_found = finds_asked m' l' d.sound g a (some (f, r))
         (after_map (state_of m l) ok.core f g a r (pick_of l) (chosen l ok.ledger_sound m) (state_of m' l') d.made)
+
+-- no refusal is 0
+pub map_nonzero : (s : State) (f g a r : ℕ) (pick : ℕ → ℕ) → Nonzero (map s f g a r pick)
+unfolding map
+map_nonzero s f g a r pick =
+    tested (s.exists g) 5 _ (omega arith) (tested (not (s.dirty g)) 14 _ (omega arith)
+    (tested (page_address a) 7 _ (omega arith) (tested (is_rights r) 8 _ (omega arith)
+    (tested (ltb f s.size) 4 _ (omega arith) (tested (may_map s f g r) 9 _ (omega arith)
+    (tested (not (mapped s g (a / 4096))) 10 _ (omega arith)
+    (tested (leb (missing s g (a / 4096)) (free_frames s)) 3 _ (omega arith) (was_done _))))))))

@@ -22,10 +22,10 @@ use Rattle.ledger.proofs.Laws.Sound.{within}
 use Rattle.monitor_tables.specs.Entries.{ToTable}
 use Rattle.monitor_tables.specs.Way.{Reached, Ended}
 
--- a shift leaves out the last h groups of nine bits
-pub shifted : (h v : ℕ) → h ≤ 3 → v / 2 ^ (9 * h) ≡ upper h v
+-- a shift by s bits leaves out the last h groups of nine bits, where s is nine for each
+shift_of : (h v : ℕ) → h ≤ 3 → v / 2 ^ (9 * h) ≡ upper h v
 unfolding upper
-shifted h v l = elim (eq? h 0) [
+shift_of h v l = elim (eq? h 0) [
   | inl e ↦ rw e (omega arith)
   | inr n0 ↦ elim (eq? h 1) [
     | inl e ↦ rw e
@@ -35,6 +35,9 @@ shifted h v l = elim (eq? h 0) [
     ]
   ]
 ]
+
+pub shifted : (h v s : ℕ) → h ≤ 3 → s ≡ 9 * h → v / 2 ^ s ≡ upper h v
+shifted h v s l e = rw e (shift_of h v l)
 
 module _ (s : State) (c : Core s) (g v : ℕ) where
   pub reached_root : s.exists g ≡ true → v < page_count → Reached s g v 3 (s.root g)

@@ -39,8 +39,8 @@ use Rattle.model.specs.Machine.{Unmap, answer}
 use Rattle.model.proofs.Invariant.Answer.{then_is}
 use Rattle.model.proofs.Invariant.Effects.{rows}
 use Rattle.model.proofs.Invariant.RoundTrip.{after_unmap}
-use Rattle.monitor_contract.specs.Found.{Translates, Finds}
-use Rattle.monitor_contract.proofs.Laws.Found.{finds_asked}
+use Rattle.monitor_contract.specs.Found.{Translates, Finds, Nonzero}
+use Rattle.monitor_contract.proofs.Laws.Found.{finds_asked, tested, was_done}
 use Rattle.monitor_unmap.specs.Unmap.{unmapping, Slotted}
 
 module _ (s : State) (a g : ℕ) where
@@ -167,3 +167,9 @@ module _ {m l m' l' : List ℕ} (ok : Sound m l) where
 
 -- what the plan asks on its way: the page's number fits, and the table that the way comes to lies in RAM
 pub ruleset plans = (address_low, way_words)
+
+-- no refusal is 0
+pub unmap_nonzero : (s : State) (g a : ℕ) → Nonzero (unmap s a g)
+unfolding unmap
+unmap_nonzero s g a = tested (s.exists g) 5 _ (omega arith)
+    (tested (page_address a) 7 _ (omega arith) (tested (mapped s g (a / 4096)) 11 _ (omega arith) (was_done _)))
