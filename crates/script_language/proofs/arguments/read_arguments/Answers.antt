@@ -12,5 +12,6 @@ returns-in_err-arguments c =
 
 pub loop-i-preserved : goal.loop-i-preserved
 loop-i-preserved c =
-    reading_more c.loop-i.invariant c.loop-i-test.true (omega (arith, c.loop-i-test.true, c.forms-forms.ensures.few)) c.word_start-from.ensures.0 c.if-from-s.false
+    reading_more c.loop-i.invariant c.loop-i-test.true (omega (arith, c.loop-i-test.true, c.forms-forms.ensures.few))
+    c.word_start-from.ensures.0 c.if-from-s.false
     c.word_start-from.ensures.1 c.word_end-at.ensures c.read_argument.ensures c.in_ok-arguments.was
